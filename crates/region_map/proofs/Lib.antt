@@ -1,0 +1,3 @@
+mod Bools
+mod First
+mod Found

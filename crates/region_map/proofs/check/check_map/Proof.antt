@@ -1,0 +1,284 @@
+use Rattle.region_map.specs.declared.clash.PairRule.the-variants as pair
+use Rattle.region_map.specs.declared.fault.NodeRule.the-variants as node
+use Rattle.region_map.proofs.Found.{lowest-passed, lowest-found, pair-passed, pair-found}
+use Rattle.region_map.specs.Check.{judged}
+use Rattle.region_map.specs.Clash.{clash}
+use Rattle.region_map.specs.Fault.{fault}
+use Rattle.region_map.specs.Reply.{accepted, lowest, firstPair}
+use mathlib.Core.Path.{_≡_}
+use borrow.Author.Tests.{eq-eqb, ne-eqb, lt-ltb, le-ltb}
+use borrow.Author.Needs.{needs}
+use Rattle.region_map.proofs.check.check_map.Statement.{statement}
+use Rattle.region_map.proofs.check.check_map.Tie as tie
+use Rattle.region_map.proofs.check.check_map.Reads as reads
+use Rattle.region_map.proofs.check.check_map.Lts as lts
+use Rattle.region_map.proofs.search.first_pair.Reads as first-pair-reads
+use Rattle.region_map.proofs.search.lowest_fault.Reads as lowest-fault-reads
+
+-- rule 4 lets the map pass
+passed-1 : (c : tie.After-enum-told) → lowest 4 (fault node.Kind (c .before .before .before .before .before .args .map) (c .before .before .before .before .before .args .memory-length)) (c .before .before .before .before .before .args .map .count) ≡ accepted
+passed-1 c = lowest-passed _ _ _ (c .before .before .lowest-fault .ensures) (c .enum-told .given .1) 4
+
+-- rule 6 lets the map pass
+passed-2 : (c : tie.After-enum-told2) → lowest 6 (fault node.Field (c .before .before .before .before .before .before .before .before .args .map) (c .before .before .before .before .before .before .before .before .args .memory-length)) (c .before .before .before .before .before .before .before .before .args .map .count) ≡ accepted
+passed-2 c = lowest-passed _ _ _ (c .before .before .lowest-fault2 .ensures) (c .enum-told2 .given .1) 6
+
+-- rule 7 lets the map pass
+passed-3 : (c : tie.After-enum-told3) → lowest 7 (fault node.Link (c .before .before .before .before .before .before .before .before .before .before .before .args .map) (c .before .before .before .before .before .before .before .before .before .before .before .args .memory-length)) (c .before .before .before .before .before .before .before .before .before .before .before .args .map .count) ≡ accepted
+passed-3 c = lowest-passed _ _ _ (c .before .before .lowest-fault3 .ensures) (c .enum-told3 .given .1) 7
+
+-- rule 8 lets the map pass
+passed-4 : (c : tie.After-enum-told4) → lowest 8 (fault node.Memory (c .before .before .before .before .before .before .before .before .before .before .before .before .before .before .args .map) (c .before .before .before .before .before .before .before .before .before .before .before .before .before .before .args .memory-length)) (c .before .before .before .before .before .before .before .before .before .before .before .before .before .before .args .map .count) ≡ accepted
+passed-4 c = lowest-passed _ _ _ (c .before .before .lowest-fault4 .ensures) (c .enum-told4 .given .1) 8
+
+-- rule 8 lets the map pass
+passed-5 : (c : tie.After-enum-told5) → firstPair 8 (clash pair.Memory (c .before .before .before .before .before .before .before .before .before .before .before .before .before .before .before .before .before .args .map)) (c .before .before .before .before .before .before .before .before .before .before .before .before .before .before .before .before .before .args .map .count) ≡ accepted
+passed-5 c = pair-passed _ _ _ (c .before .before .first-pair .ensures) (c .enum-told5 .given .1) 8
+
+-- rule 9 lets the map pass
+passed-6 : (c : tie.After-enum-told6) → firstPair 9 (clash pair.Managed (c .before .before .before .before .before .before .before .before .before .before .before .before .before .before .before .before .before .before .before .before .args .map)) (c .before .before .before .before .before .before .before .before .before .before .before .before .before .before .before .before .before .before .before .before .args .map .count) ≡ accepted
+passed-6 c = pair-passed _ _ _ (c .before .before .first-pair2 .ensures) (c .enum-told6 .given .1) 9
+
+-- rule 10 lets the map pass
+passed-7 : (c : tie.After-enum-told7) → firstPair 10 (clash pair.Ports (c .before .before .before .before .before .before .before .before .before .before .before .before .before .before .before .before .before .before .before .before .before .before .before .args .map)) (c .before .before .before .before .before .before .before .before .before .before .before .before .before .before .before .before .before .before .before .before .before .before .before .args .map .count) ≡ accepted
+passed-7 c = pair-passed _ _ _ (c .before .before .first-pair3 .ensures) (c .enum-told7 .given .1) 10
+
+-- rule 11 lets the map pass
+passed-8 : (c : tie.After-enum-told8) → firstPair 11 (clash pair.Siblings (c .before .before .before .before .before .before .before .before .before .before .before .before .before .before .before .before .before .before .before .before .before .before .before .before .before .before .args .map)) (c .before .before .before .before .before .before .before .before .before .before .before .before .before .before .before .before .before .before .before .before .before .before .before .before .before .before .args .map .count) ≡ accepted
+passed-8 c = pair-passed _ _ _ (c .before .before .first-pair4 .ensures) (c .enum-told8 .given .1) 11
+
+-- src/check.rt:33:9
+returns : tie.Need-returns
+unfolding judged
+returns c = simp (eq-eqb _ _ (c .if1 .taken))
+
+-- src/check.rt:36:9
+returns-2 : tie.Need-returns-2
+unfolding judged
+returns-2 c = simp (ne-eqb _ _ (c .before .if1 .left), lt-ltb _ _ (c .if2 .taken))
+
+-- src/check.rt:38:30
+lowest-fault-requires : tie.Need-lowest-fault-requires
+lowest-fault-requires c κs = search needs
+
+-- src/check.rt:38:25
+enum-known-n : tie.Need-enum-known-n
+enum-known-n c = search needs
+
+-- src/check.rt:39:9
+returns-3 : tie.Need-returns-3
+unfolding judged
+returns-3 c = let now-at = c .before .before .before in
+    let start = now-at .before in
+    simp (ne-eqb _ _ (start .before .if1 .left), le-ltb _ _ (start .if2 .left), lowest-found _ _ _ _ (now-at .lowest-fault .ensures) (c .before .n .given .1) 4)
+
+enum-told : tie.Need-enum-told
+enum-told c = search needs
+
+-- src/check.rt:41:30
+lowest-fault-requires-2 : tie.Need-lowest-fault-requires-2
+lowest-fault-requires-2 c κs = search needs
+
+-- src/check.rt:41:25
+enum-known-n-2 : tie.Need-enum-known-n-2
+enum-known-n-2 c = search needs
+
+-- src/check.rt:42:9
+returns-4 : tie.Need-returns-4
+unfolding judged
+returns-4 c = let now-at = c .before .before .before in
+    let at-1 = now-at .before in
+    let start = at-1 .before .before .before in
+    simp (ne-eqb _ _ (start .before .if1 .left), le-ltb _ _ (start .if2 .left), passed-1 at-1, lowest-found _ _ _ _ (now-at .lowest-fault2 .ensures) (c .before .n2 .given .1) 6)
+
+enum-told-2 : tie.Need-enum-told-2
+enum-told-2 c = search needs
+
+-- src/check.rt:44:30
+lowest-fault-requires-3 : tie.Need-lowest-fault-requires-3
+lowest-fault-requires-3 c κs = search needs
+
+-- src/check.rt:44:25
+enum-known-n-3 : tie.Need-enum-known-n-3
+enum-known-n-3 c = search needs
+
+-- src/check.rt:45:9
+returns-5 : tie.Need-returns-5
+unfolding judged
+returns-5 c = let now-at = c .before .before .before in
+    let at-2 = now-at .before in
+    let at-1 = at-2 .before .before .before in
+    let start = at-1 .before .before .before in
+    simp (ne-eqb _ _ (start .before .if1 .left), le-ltb _ _ (start .if2 .left), passed-1 at-1, passed-2 at-2, lowest-found _ _ _ _ (now-at .lowest-fault3 .ensures) (c .before .n3 .given .1) 7)
+
+enum-told-3 : tie.Need-enum-told-3
+enum-told-3 c = search needs
+
+-- src/check.rt:47:30
+lowest-fault-requires-4 : tie.Need-lowest-fault-requires-4
+lowest-fault-requires-4 c κs = search needs
+
+-- src/check.rt:47:25
+enum-known-n-4 : tie.Need-enum-known-n-4
+enum-known-n-4 c = search needs
+
+-- src/check.rt:48:9
+returns-6 : tie.Need-returns-6
+unfolding judged
+returns-6 c = let now-at = c .before .before .before in
+    let at-3 = now-at .before in
+    let at-2 = at-3 .before .before .before in
+    let at-1 = at-2 .before .before .before in
+    let start = at-1 .before .before .before in
+    simp (ne-eqb _ _ (start .before .if1 .left), le-ltb _ _ (start .if2 .left), passed-1 at-1, passed-2 at-2, passed-3 at-3, lowest-found _ _ _ _ (now-at .lowest-fault4 .ensures) (c .before .n4 .given .1) 8)
+
+enum-told-4 : tie.Need-enum-told-4
+enum-told-4 c = search needs
+
+-- src/check.rt:50:32
+first-pair-requires : tie.Need-first-pair-requires
+first-pair-requires c κs = search needs
+
+-- src/check.rt:50:24
+enum-known-i : tie.Need-enum-known-i
+enum-known-i c = search needs
+
+-- src/check.rt:51:9
+returns-7 : tie.Need-returns-7
+unfolding judged
+returns-7 c = let now-at = c .before .before .before in
+    let at-4 = now-at .before in
+    let at-3 = at-4 .before .before .before in
+    let at-2 = at-3 .before .before .before in
+    let at-1 = at-2 .before .before .before in
+    let start = at-1 .before .before .before in
+    simp (ne-eqb _ _ (start .before .if1 .left), le-ltb _ _ (start .if2 .left), passed-1 at-1, passed-2 at-2, passed-3 at-3, passed-4 at-4, pair-found _ _ _ _ _ (now-at .first-pair .ensures) (c .before .i .given .1) 8)
+
+enum-told-5 : tie.Need-enum-told-5
+enum-told-5 c = search needs
+
+-- src/check.rt:53:32
+first-pair-requires-2 : tie.Need-first-pair-requires-2
+first-pair-requires-2 c κs = search needs
+
+-- src/check.rt:53:24
+enum-known-i-2 : tie.Need-enum-known-i-2
+enum-known-i-2 c = search needs
+
+-- src/check.rt:54:9
+returns-8 : tie.Need-returns-8
+unfolding judged
+returns-8 c = let now-at = c .before .before .before in
+    let at-5 = now-at .before in
+    let at-4 = at-5 .before .before .before in
+    let at-3 = at-4 .before .before .before in
+    let at-2 = at-3 .before .before .before in
+    let at-1 = at-2 .before .before .before in
+    let start = at-1 .before .before .before in
+    simp (ne-eqb _ _ (start .before .if1 .left), le-ltb _ _ (start .if2 .left), passed-1 at-1, passed-2 at-2, passed-3 at-3, passed-4 at-4, passed-5 at-5, pair-found _ _ _ _ _ (now-at .first-pair2 .ensures) (c .before .i2 .given .1) 9)
+
+enum-told-6 : tie.Need-enum-told-6
+enum-told-6 c = search needs
+
+-- src/check.rt:56:32
+first-pair-requires-3 : tie.Need-first-pair-requires-3
+first-pair-requires-3 c κs = search needs
+
+-- src/check.rt:56:24
+enum-known-i-3 : tie.Need-enum-known-i-3
+enum-known-i-3 c = search needs
+
+-- src/check.rt:57:9
+returns-9 : tie.Need-returns-9
+unfolding judged
+returns-9 c = let now-at = c .before .before .before in
+    let at-6 = now-at .before in
+    let at-5 = at-6 .before .before .before in
+    let at-4 = at-5 .before .before .before in
+    let at-3 = at-4 .before .before .before in
+    let at-2 = at-3 .before .before .before in
+    let at-1 = at-2 .before .before .before in
+    let start = at-1 .before .before .before in
+    simp (ne-eqb _ _ (start .before .if1 .left), le-ltb _ _ (start .if2 .left), passed-1 at-1, passed-2 at-2, passed-3 at-3, passed-4 at-4, passed-5 at-5, passed-6 at-6, pair-found _ _ _ _ _ (now-at .first-pair3 .ensures) (c .before .i3 .given .1) 10)
+
+enum-told-7 : tie.Need-enum-told-7
+enum-told-7 c = search needs
+
+-- src/check.rt:59:32
+first-pair-requires-4 : tie.Need-first-pair-requires-4
+first-pair-requires-4 c κs = search needs
+
+-- src/check.rt:59:24
+enum-known-i-4 : tie.Need-enum-known-i-4
+enum-known-i-4 c = search needs
+
+-- src/check.rt:60:9
+returns-10 : tie.Need-returns-10
+unfolding judged
+returns-10 c = let now-at = c .before .before .before in
+    let at-7 = now-at .before in
+    let at-6 = at-7 .before .before .before in
+    let at-5 = at-6 .before .before .before in
+    let at-4 = at-5 .before .before .before in
+    let at-3 = at-4 .before .before .before in
+    let at-2 = at-3 .before .before .before in
+    let at-1 = at-2 .before .before .before in
+    let start = at-1 .before .before .before in
+    simp (ne-eqb _ _ (start .before .if1 .left), le-ltb _ _ (start .if2 .left), passed-1 at-1, passed-2 at-2, passed-3 at-3, passed-4 at-4, passed-5 at-5, passed-6 at-6, passed-7 at-7, pair-found _ _ _ _ _ (now-at .first-pair4 .ensures) (c .before .i4 .given .1) 11)
+
+enum-told-8 : tie.Need-enum-told-8
+enum-told-8 c = search needs
+
+-- src/check.rt:28:1
+returns-11 : tie.Need-returns-11
+unfolding judged
+returns-11 c = let at-8 = c in
+    let at-7 = at-8 .before .before .before in
+    let at-6 = at-7 .before .before .before in
+    let at-5 = at-6 .before .before .before in
+    let at-4 = at-5 .before .before .before in
+    let at-3 = at-4 .before .before .before in
+    let at-2 = at-3 .before .before .before in
+    let at-1 = at-2 .before .before .before in
+    let start = at-1 .before .before .before in
+    simp (ne-eqb _ _ (start .before .if1 .left), le-ltb _ _ (start .if2 .left), passed-1 at-1, passed-2 at-2, passed-3 at-3, passed-4 at-4, passed-5 at-5, passed-6 at-6, passed-7 at-7, passed-8 at-8)
+
+pub check-map-spec : {M : Type 1} → statement M
+check-map-spec =
+    tie.close
+    (tie.spec
+    returns
+    returns-2
+    lowest-fault-requires
+    enum-known-n
+    returns-3
+    enum-told
+    lowest-fault-requires-2
+    enum-known-n-2
+    returns-4
+    enum-told-2
+    lowest-fault-requires-3
+    enum-known-n-3
+    returns-5
+    enum-told-3
+    lowest-fault-requires-4
+    enum-known-n-4
+    returns-6
+    enum-told-4
+    first-pair-requires
+    enum-known-i
+    returns-7
+    enum-told-5
+    first-pair-requires-2
+    enum-known-i-2
+    returns-8
+    enum-told-6
+    first-pair-requires-3
+    enum-known-i-3
+    returns-9
+    enum-told-7
+    first-pair-requires-4
+    enum-known-i-4
+    returns-10
+    enum-told-8
+    returns-11)

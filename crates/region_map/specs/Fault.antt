@@ -1,0 +1,74 @@
+-- The rules over one region: 4, 6, 7 and the first half of 8. Assumes nothing: these are definitions.
+use mathlib.Core.Bool.{Bool, true, false, _&&_, _||_, not}
+use Prim.Native.Nat.{ℕ, _+_, _-_, _^_}
+use lib.Dec.{eqb, leb, ltb}
+use Rattle.region_map.specs.Map.{container, ram, alias, managed, has, valueOf, region}
+use Rattle.region_map.specs.declared.map.Region.{Region}
+use Rattle.region_map.specs.declared.map.RegionMap.{RegionMap}
+use Rattle.region_map.specs.declared.map.Field.{Field}
+use Rattle.region_map.specs.declared.map.Field.the-variants.{MemoryStart, Port, Target, AliasOffset}
+use Rattle.region_map.specs.declared.fault.NodeRule.{NodeRule}
+use Rattle.region_map.specs.declared.fault.NodeRule.the-variants as rule
+
+-- the largest offset and size
+abbrev pub limit : ℕ
+limit = 2 ^ 48
+
+-- 4: 'kind over 4'
+abbrev pub kindFault : Region → Bool
+kindFault r = ltb managed (r .kind)
+
+-- 6: 'a field that the kind lacks not 0'
+abbrev pub extra : Region → Field → Bool
+extra r f = not (has (r .kind) f) && not (eqb (valueOf f r) 0)
+
+-- 6: 'offset, alias offset or memory start over 2^48; size 0 or over 2^48; priority field or port over 255; in a given map, a field that the kind lacks not 0'
+abbrev pub largeFault : Region → Bool
+largeFault r = ltb limit (r .offset) || ltb limit (r .«alias_offset») || ltb limit (r .«memory_start»)
+
+abbrev pub rangeFault : Region → Bool
+rangeFault r = eqb (r .size) 0 || ltb limit (r .size) || ltb 255 (r .priority) || ltb 255 (r .port)
+
+abbrev pub extraFault : Region → Bool
+extraFault r = extra r MemoryStart || extra r Port || extra r Target || extra r AliasOffset
+
+abbrev pub fieldFault : Region → Bool
+fieldFault r = largeFault r || rangeFault r || extraFault r
+
+-- the number of a parent, where there is one
+abbrev pub parentOf : Region → ℕ
+parentOf r = r .parent - 1
+
+-- 7: 'a parent not above its child or not below the count, or an alias or managed node'
+unfoldable pub parentFault : RegionMap → ℕ → Bool
+parentFault m n =
+    not (eqb (region m n .parent) 0)
+    && (leb (parentOf (region m n)) n || leb (m .count) (parentOf (region m n))
+    || eqb (region m (parentOf (region m n)) .kind) alias || eqb (region m (parentOf (region m n)) .kind) managed)
+
+-- 7: 'an alias target not below the alias'
+abbrev pub targetFault : Region → ℕ → Bool
+targetFault r n = eqb (r .kind) alias && leb n (r .target)
+
+-- 7: 'the last node not a container, or with a parent, or at an offset other than 0'
+abbrev pub rootFault : Region → Bool
+rootFault r = not (eqb (r .kind) container) || not (eqb (r .parent) 0) || not (eqb (r .offset) 0)
+
+-- 7
+unfoldable pub linkFault : RegionMap → ℕ → Bool
+linkFault m n = parentFault m n || targetFault (region m n) n || (eqb (n + 1) (m .count) && rootFault (region m n))
+
+-- a region whose bytes lie in guest memory
+abbrev pub backed : Region → Bool
+backed r = eqb (r .kind) ram || eqb (r .kind) managed
+
+-- 8: 'memory start + size over the memory's length'
+abbrev pub memoryFault : ℕ → Region → Bool
+memoryFault length r = backed r && ltb length (r .«memory_start» + r .size)
+
+-- the rule that a search over the regions goes by
+abbrev pub fault : NodeRule → RegionMap → ℕ → ℕ → Bool
+fault rule.Kind m length n = kindFault (region m n)
+fault rule.Field m length n = fieldFault (region m n)
+fault rule.Link m length n = linkFault m n
+fault rule.Memory m length n = memoryFault length (region m n)

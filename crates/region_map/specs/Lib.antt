@@ -1,0 +1,5 @@
+pub mod Map
+pub mod Reply
+pub mod Fault
+pub mod Clash
+pub mod Check

@@ -1,0 +1,33 @@
+-- What a call answers in document 01's terms, and the first refusal of several. Assumes nothing: these are definitions.
+use mathlib.Core.Bool.{Bool, cond, _&&_}
+use Prim.Native.Nat.{ℕ, zero, suc}
+use lib.Dec.{ltb}
+
+-- 'Refusal numbers': nothing refused, or a number with two nodes, or a number with a byte place
+pub data Reply : Type 0 where
+  accepted : Reply
+  nodes : ℕ → ℕ → ℕ → Reply
+  place : ℕ → ℕ → Reply
+
+infixl 20 _then_
+-- the first of two that refuses
+abbrev pub _then_ : Reply → Reply → Reply
+accepted then b = b
+nodes k i j then b = nodes k i j
+place k p then b = place k p
+
+-- the first refusal of f 0, f 1, .. below n
+unfoldable pub first : (ℕ → Reply) → ℕ → Reply
+first f zero = accepted
+first f (suc n) = first f n then f n
+
+-- 'the lowest node at fault twice', of the nodes below n
+unfoldable pub lowest : ℕ → (ℕ → Bool) → ℕ → Reply
+lowest k fault n = first (λ i. cond (fault i) (nodes k i i) accepted) n
+
+-- 'the first clashing pair in ascending order, lower number first': the pairs of i, with the nodes above it and below n
+unfoldable pub pairsOf : ℕ → (ℕ → ℕ → Bool) → ℕ → ℕ → Reply
+pairsOf k clash n i = first (λ j. cond (ltb i j && clash i j) (nodes k i j) accepted) n
+
+unfoldable pub firstPair : ℕ → (ℕ → ℕ → Bool) → ℕ → Reply
+firstPair k clash n = first (pairsOf k clash n) n

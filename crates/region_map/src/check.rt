@@ -1,0 +1,62 @@
+// The check of a given map.
+ghost use mathlib.Core.Path.{_≡_};
+ghost use Rattle.region_map.specs.Check.{reply, judged};
+use crate::clash::PairRule;
+use crate::fault::NodeRule;
+use crate::map::REGIONS;
+use crate::map::RegionMap;
+use crate::search::Lowest;
+use crate::search::Pair;
+use crate::search::first_pair;
+use crate::search::lowest_fault;
+
+// Accepted, or the refusal of document 01 with its nodes: 3, 4 and 6 to 11.
+pub enum MapAnswer {
+    Accepted,
+    Count,
+    Kind(usize),
+    Field(usize),
+    Link(usize),
+    Memory(usize, usize),
+    Managed(usize, usize),
+    Port(usize, usize),
+    Overlap(usize, usize),
+}
+
+// Judges a map against the length of guest memory.
+pub fn check_map(map: RegionMap, memory_length: u64) -> MapAnswer
+    ensures { λ r. ⌜ reply r ≡ judged map «memory_length» ⌝ }
+{
+    let count = map.count;
+    if count == 0 {
+        return MapAnswer::Count;
+    }
+    if REGIONS < count {
+        return MapAnswer::Count;
+    }
+    if let Lowest::Node(n) = lowest_fault(map, memory_length, NodeRule::Kind) {
+        return MapAnswer::Kind(n);
+    }
+    if let Lowest::Node(n) = lowest_fault(map, memory_length, NodeRule::Field) {
+        return MapAnswer::Field(n);
+    }
+    if let Lowest::Node(n) = lowest_fault(map, memory_length, NodeRule::Link) {
+        return MapAnswer::Link(n);
+    }
+    if let Lowest::Node(n) = lowest_fault(map, memory_length, NodeRule::Memory) {
+        return MapAnswer::Memory(n, n);
+    }
+    if let Pair::Found(i, j) = first_pair(map, PairRule::Memory) {
+        return MapAnswer::Memory(i, j);
+    }
+    if let Pair::Found(i, j) = first_pair(map, PairRule::Managed) {
+        return MapAnswer::Managed(i, j);
+    }
+    if let Pair::Found(i, j) = first_pair(map, PairRule::Ports) {
+        return MapAnswer::Port(i, j);
+    }
+    if let Pair::Found(i, j) = first_pair(map, PairRule::Siblings) {
+        return MapAnswer::Overlap(i, j);
+    }
+    MapAnswer::Accepted
+}

@@ -1,0 +1,84 @@
+// The rules of document 01 over two regions.
+ghost use mathlib.Core.Path.{_≡_};
+ghost use Prim.Native.Nat.{_≤_, _<_};
+ghost use Rattle.region_map.specs.Clash.{share as shareOf, priorityOf, memoryClash, managedClash, portClash, siblings as siblingsOf, siblingClash, clash};
+use crate::map::MANAGED;
+use crate::map::MMIO;
+use crate::map::RAM;
+use crate::map::Region;
+use crate::map::RegionMap;
+
+// The rules that are searched for over all pairs: 8's shared byte, 9, 10 and 11.
+pub enum PairRule {
+    Memory,
+    Managed,
+    Ports,
+    Siblings,
+}
+
+// Do [a, a + s) and [b, b + t) share a number? No sum is taken, so none wraps.
+fn share(a: u64, s: u64, b: u64, t: u64) -> bool
+    ensures { λ r. ⌜ r ≡ shareOf a s b t ⌝ }
+{
+    if a < b {
+        return (b - a < s) & (0 < t);
+    }
+    (0 < s) & (a - b < t)
+}
+
+// The priority + 128: field 0 stands for priority 0.
+fn priority_of(r: Region) -> u64
+    ensures { λ p. ⌜ p ≡ priorityOf r ⌝ }
+{
+    if r.priority == 0 { 128 } else { r.priority }
+}
+
+fn memory_clash(a: Region, b: Region) -> bool
+    ensures { λ r. ⌜ r ≡ memoryClash a b ⌝ }
+{
+    let first = (a.kind == RAM) | (a.kind == MANAGED);
+    let second = (b.kind == RAM) | (b.kind == MANAGED);
+    first & second & share(a.memory_start, a.size, b.memory_start, b.size)
+}
+
+fn managed_clash(a: Region, b: Region) -> bool
+    ensures { λ r. ⌜ r ≡ managedClash a b ⌝ }
+{
+    (a.kind == MANAGED) & (b.kind == MANAGED)
+}
+
+fn port_clash(a: Region, b: Region) -> bool
+    ensures { λ r. ⌜ r ≡ portClash a b ⌝ }
+{
+    (a.kind == MMIO) & (b.kind == MMIO) & (a.port == b.port)
+}
+
+fn siblings(a: Region, b: Region) -> bool
+    ensures { λ r. ⌜ r ≡ siblingsOf a b ⌝ }
+{
+    !(a.parent == 0) & (a.parent == b.parent)
+}
+
+fn sibling_clash(map: RegionMap, i: usize, j: usize) -> bool
+    requires { ⌜ (i < 32) × (j < 32) ⌝ }
+    ensures { λ r. ⌜ r ≡ siblingClash map i j ⌝ }
+{
+    let a = map.regions[i];
+    let b = map.regions[j];
+    siblings(a, b) & (priority_of(a) == priority_of(b)) & share(a.offset, a.size, b.offset, b.size)
+}
+
+// Do regions i and j clash by the rule?
+pub fn clashes(map: RegionMap, rule: PairRule, i: usize, j: usize) -> bool
+    requires { ⌜ (i < 32) × (j < 32) ⌝ }
+    ensures { λ r. ⌜ r ≡ clash rule map i j ⌝ }
+{
+    let a = map.regions[i];
+    let b = map.regions[j];
+    match rule {
+        PairRule::Memory => memory_clash(a, b),
+        PairRule::Managed => managed_clash(a, b),
+        PairRule::Ports => port_clash(a, b),
+        PairRule::Siblings => sibling_clash(map, i, j),
+    }
+}

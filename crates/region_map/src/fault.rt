@@ -1,0 +1,117 @@
+// The rules of document 01 over one region.
+ghost use mathlib.Core.Path.{_≡_};
+ghost use Prim.Native.Nat.{_≤_, _<_, _+_};
+ghost use lib.Dec.{ltb};
+ghost use Rattle.region_map.specs.Map.{region};
+ghost use Rattle.region_map.specs.Fault.{extra as extraOf, fieldFault, parentFault, targetFault, rootFault, linkFault, memoryFault, fault};
+use crate::map::ALIAS;
+use crate::map::CONTAINER;
+use crate::map::Field;
+use crate::map::MANAGED;
+use crate::map::RAM;
+use crate::map::Region;
+use crate::map::RegionMap;
+use crate::map::has;
+
+// The largest offset and size, 2^48.
+const LIMIT: u64 = 281474976710656;
+
+// The rules that are searched for over all regions: 4, 6, 7, and 8's ends past the memory.
+pub enum NodeRule {
+    Kind,
+    Field,
+    Link,
+    Memory,
+}
+
+// Has a region a value in a field that its kind lacks?
+fn extra(r: Region, field: Field) -> bool
+    ensures { λ b. ⌜ b ≡ extraOf r field ⌝ }
+{
+    let kind = r.kind;
+    let value = r.value_of(field);
+    !has(kind, field) & !(value == 0)
+}
+
+fn field_fault(r: Region) -> bool
+    ensures { λ b. ⌜ b ≡ fieldFault r ⌝ }
+{
+    let large = (LIMIT < r.offset) | (LIMIT < r.alias_offset) | (LIMIT < r.memory_start);
+    let range = (r.size == 0) | (LIMIT < r.size) | (255 < r.priority) | (255 < r.port);
+    let more = extra(r, Field::MemoryStart)
+        | extra(r, Field::Port)
+        | extra(r, Field::Target)
+        | extra(r, Field::AliasOffset);
+    large | range | more
+}
+
+fn parent_fault(map: RegionMap, n: usize) -> bool
+    requires { ⌜ (map .count ≤ 32) × (n < map .count) ⌝ }
+    ensures { λ b. ⌜ b ≡ parentFault map n ⌝ }
+{
+    let field = map.regions[n].parent;
+    if field == 0 {
+        return false;
+    }
+    let parent = field - 1;
+    if parent <= n {
+        return true;
+    }
+    if map.count <= parent {
+        return true;
+    }
+    let kind = map.regions[parent].kind;
+    (kind == ALIAS) | (kind == MANAGED)
+}
+
+fn target_fault(r: Region, n: usize) -> bool
+    ensures { λ b. ⌜ b ≡ targetFault r n ⌝ }
+{
+    (r.kind == ALIAS) & (n <= r.target)
+}
+
+fn root_fault(r: Region) -> bool
+    ensures { λ b. ⌜ b ≡ rootFault r ⌝ }
+{
+    !(r.kind == CONTAINER) | !(r.parent == 0) | !(r.offset == 0)
+}
+
+fn link_fault(map: RegionMap, n: usize) -> bool
+    requires { ⌜ (map .count ≤ 32) × (n < map .count) ⌝ }
+    ensures { λ b. ⌜ b ≡ linkFault map n ⌝ }
+{
+    let r = map.regions[n];
+    let last = n + 1 == map.count;
+    parent_fault(map, n) | target_fault(r, n) | (last & root_fault(r))
+}
+
+// Is the sum over the limit? It never wraps.
+fn sum_over(a: u64, b: u64, limit: u64) -> bool
+    ensures { λ r. ⌜ r ≡ ltb limit (a + b) ⌝ }
+{
+    if limit < b {
+        return true;
+    }
+    limit - b < a
+}
+
+fn memory_fault(memory_length: u64, r: Region) -> bool
+    ensures { λ b. ⌜ b ≡ memoryFault «memory_length» r ⌝ }
+{
+    let backed = (r.kind == RAM) | (r.kind == MANAGED);
+    backed & sum_over(r.memory_start, r.size, memory_length)
+}
+
+// Is region n at fault by the rule?
+pub fn at_fault(map: RegionMap, memory_length: u64, rule: NodeRule, n: usize) -> bool
+    requires { ⌜ (map .count ≤ 32) × (n < map .count) ⌝ }
+    ensures { λ b. ⌜ b ≡ fault rule map «memory_length» n ⌝ }
+{
+    let r = map.regions[n];
+    match rule {
+        NodeRule::Kind => MANAGED < r.kind,
+        NodeRule::Field => field_fault(r),
+        NodeRule::Link => link_fault(map, n),
+        NodeRule::Memory => memory_fault(memory_length, r),
+    }
+}
