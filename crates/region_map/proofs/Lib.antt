@@ -1,3 +1,5 @@
 mod Bools
 mod First
 mod Found
+pub mod Accepted
+pub mod Answers

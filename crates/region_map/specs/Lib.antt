@@ -3,3 +3,4 @@ pub mod Reply
 pub mod Fault
 pub mod Clash
 pub mod Check
+pub mod Sound

@@ -1,0 +1,35 @@
+-- The check's promise fixes its answer: two answers with one number and the same nodes are equal. Assumes nothing.
+use mathlib.Core.Path.{_≡_, refl, sym, ap, _∙_}
+use mathlib.Core.Bool.{cond}
+use Prim.Native.Nat.{ℕ}
+use lib.Dec.{eqb}
+use Rattle.region_map.specs.Reply.{Reply, accepted, nodes, place}
+use Rattle.region_map.specs.Check.{reply}
+use Rattle.region_map.specs.declared.check.MapAnswer.{MapAnswer}
+use Rattle.region_map.specs.declared.check.MapAnswer.the-variants as answer
+
+-- the answer of a number with its nodes
+abbrev answerOf : Reply → MapAnswer
+answerOf accepted = answer.Accepted
+answerOf (nodes k i j) =
+    cond (eqb k 3) answer.Count
+    (cond (eqb k 4) (answer.Kind i)
+    (cond (eqb k 6) (answer.Field i)
+    (cond (eqb k 7) (answer.Link i)
+    (cond (eqb k 8) (answer.Memory i j)
+    (cond (eqb k 9) (answer.Managed i j) (cond (eqb k 10) (answer.Port i j) (answer.Overlap i j)))))))
+answerOf (place k p) = answer.Accepted
+
+back : (a : MapAnswer) → answerOf (reply a) ≡ a
+back answer.Accepted = refl
+back answer.Count = refl
+back (answer.Kind n) = refl
+back (answer.Field n) = refl
+back (answer.Link n) = refl
+back (answer.Memory i j) = refl
+back (answer.Managed i j) = refl
+back (answer.Port i j) = refl
+back (answer.Overlap i j) = refl
+
+pub reply-injective : (a b : MapAnswer) → reply a ≡ reply b → a ≡ b
+reply-injective a b e = sym (back a) ∙ ap answerOf e ∙ back b
