@@ -1,0 +1,50 @@
+// One number of a sheet, in groups of seven bits.
+ghost use mathlib.Core.Path.{_≡_};
+ghost use Prim.Native.Nat.{_<_};
+ghost use Rattle.sheet.specs.Number.{number as numberAt, numberOf};
+
+use crate::answer::Cursor;
+use crate::answer::SheetAnswer;
+
+pub enum NumberRead {
+    Value(u64, Cursor),
+    Refused(SheetAnswer),
+}
+
+// The most groups of a number.
+const GROUPS: usize = 8;
+
+fn wide(x: u8) -> u64
+    ensures { λ r. ⌜ (r ≡ x) × (r < 256) ⌝ }
+{
+    x as u64
+}
+
+// The number at a cursor, and the cursor past it.
+pub fn read_number(sheet: &[u8], from: Cursor) -> NumberRead
+    ensures { λ r. ⌜ numberOf r ≡ numberAt (now (sheet .entry)) (from .at) ⌝ }
+{
+    let mut at = from.at;
+    let mut value: u64 = 0;
+    let mut scale: u64 = 1;
+    for i in 0..GROUPS {
+        if sheet.len() <= at {
+            return NumberRead::Refused(SheetAnswer::Short(sheet.len()));
+        }
+        let byte = wide(sheet[at]);
+        if byte < 128 {
+            if (0 < i) & (byte == 0) {
+                return NumberRead::Refused(SheetAnswer::Number(at));
+            }
+            let whole = value + byte * scale;
+            return NumberRead::Value(whole, Cursor { at: at + 1 });
+        }
+        if i == 7 {
+            return NumberRead::Refused(SheetAnswer::Number(at));
+        }
+        value += (byte - 128) * scale;
+        scale *= 128;
+        at += 1;
+    }
+    NumberRead::Refused(SheetAnswer::Number(at))
+}
