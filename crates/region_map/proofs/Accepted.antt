@@ -18,40 +18,8 @@ use Rattle.region_map.specs.declared.map.Field.the-variants.{Parent, Off
 use Rattle.region_map.specs.declared.fault.NodeRule.the-variants as node
 use Rattle.region_map.specs.declared.clash.PairRule.{PairRule}
 use Rattle.region_map.specs.declared.clash.PairRule.the-variants as pair
+use Rattle.region_map.proofs.Bools.{or-left, or-right, none-of-3, none-of-4, and-right, and-true, never, not-eqb, is-eqb}
 use Rattle.region_map.proofs.First.{then-left, then-right, lowest-all, pair-all}
-
--- of tests that are false
-or-left : (a b : Bool) → (a || b) ≡ false → a ≡ false
-or-left true b e = e
-or-left false b e = refl
-
-or-right : (a b : Bool) → (a || b) ≡ false → b ≡ false
-or-right true b e = absurd (let z : _≡_ {A = ℕ} 0 1 = cc in omega arith)
-or-right false b e = e
-
-none-of-3 : (a b c : Bool) → (a || b || c) ≡ false → (a ≡ false) × (b ≡ false) × (c ≡ false)
-none-of-3 a b c e = (or-left a b (or-left (a || b) c e), or-right a b (or-left (a || b) c e), or-right (a || b) c e)
-
-none-of-4 : (a b c d : Bool) → (a || b || c || d) ≡ false → (a ≡ false) × (b ≡ false) × (c ≡ false) × (d ≡ false)
-none-of-4 a b c d e =
-    let h = none-of-3 a b c (or-left (a || b || c) d e) in
-    (h .0, h .1, h .2, or-right (a || b || c) d e)
-
-and-right : (a b : Bool) → (a && b) ≡ false → a ≡ true → b ≡ false
-and-right true b e t = e
-and-right false b e t = absurd (let z : _≡_ {A = ℕ} 0 1 = cc in omega arith)
-
-and-true : (a b : Bool) → a ≡ true → b ≡ true → (a && b) ≡ true
-and-true a b p q = rw (p, q)
-
-never : true ≡ false → ⊥
-never e = let z : _≡_ {A = ℕ} 0 1 = cc in omega arith
-
-not-eqb : (a b : ℕ) → (a ≡ b → ⊥) → not (eqb a b) ≡ true
-not-eqb a b h = rw (ne-eqb a b h)
-
-is-eqb : (a b : ℕ) → not (eqb a b) ≡ false → a ≡ b
-is-eqb a b e = eqb-true a b (not-false (eqb a b) e)
 
 -- ranges that do not share have no number in common
 pub apart : (a s b t : ℕ) → share a s b t ≡ false → Apart a s b t

@@ -1,10 +1,10 @@
--- Tests that say the same, and the tests of a sum and of two ranges without a sum. Assumes nothing.
-use mathlib.Core.Path.{_≡_, refl, sym, ap₂}
-use mathlib.Core.Bool.{Bool, true, false, _&&_}
+-- Laws of tests: those that say the same, of a sum and of two ranges without a sum, and of parts of a test. Assumes nothing.
+use mathlib.Core.Path.{_≡_, refl, ap₂}
+use mathlib.Core.Bool.{Bool, true, false, _&&_, _||_, not}
 use Prim.Native.Nat.{ℕ, _+_, _-_, _≤_, _<_, max}
 use native.Mathlib.Omega.{arith}
-use lib.Dec.{ltb}
-use borrow.Author.Tests.{ltb-true, ltb-false, lt-ltb, le-ltb}
+use lib.Dec.{eqb, ltb}
+use borrow.Author.Tests.{ltb-true, ltb-false, eqb-true, not-false, ne-eqb}
 use Rattle.region_map.specs.Clash.{share}
 
 -- two orders that follow from each other have equal tests
@@ -29,3 +29,36 @@ pub share-above : (a s b t : ℕ) → b ≤ a → (ltb 0 s && ltb (a - b) t) ≡
 share-above a s b t h =
     ap₂ _&&_ (ltb-same 0 s (max a b) (a + s) (λ p. omega arith) (λ p. omega arith))
     (ltb-same (a - b) t (max a b) (b + t) (λ p. omega arith) (λ p. omega arith))
+
+-- of tests that are false
+pub or-left : (a b : Bool) → (a || b) ≡ false → a ≡ false
+or-left true b e = e
+or-left false b e = refl
+
+pub or-right : (a b : Bool) → (a || b) ≡ false → b ≡ false
+or-right true b e = absurd (let z : _≡_ {A = ℕ} 0 1 = cc in omega arith)
+or-right false b e = e
+
+pub none-of-3 : (a b c : Bool) → (a || b || c) ≡ false → (a ≡ false) × (b ≡ false) × (c ≡ false)
+none-of-3 a b c e = (or-left a b (or-left (a || b) c e), or-right a b (or-left (a || b) c e), or-right (a || b) c e)
+
+pub none-of-4 : (a b c d : Bool) → (a || b || c || d) ≡ false → (a ≡ false) × (b ≡ false) × (c ≡ false) × (d ≡ false)
+none-of-4 a b c d e =
+    let h = none-of-3 a b c (or-left (a || b || c) d e) in
+    (h .0, h .1, h .2, or-right (a || b || c) d e)
+
+pub and-right : (a b : Bool) → (a && b) ≡ false → a ≡ true → b ≡ false
+and-right true b e t = e
+and-right false b e t = absurd (let z : _≡_ {A = ℕ} 0 1 = cc in omega arith)
+
+pub and-true : (a b : Bool) → a ≡ true → b ≡ true → (a && b) ≡ true
+and-true a b p q = rw (p, q)
+
+pub never : true ≡ false → ⊥
+never e = let z : _≡_ {A = ℕ} 0 1 = cc in omega arith
+
+pub not-eqb : (a b : ℕ) → (a ≡ b → ⊥) → not (eqb a b) ≡ true
+not-eqb a b h = rw (ne-eqb a b h)
+
+pub is-eqb : (a b : ℕ) → not (eqb a b) ≡ false → a ≡ b
+is-eqb a b e = eqb-true a b (not-false (eqb a b) e)

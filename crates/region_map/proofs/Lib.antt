@@ -1,4 +1,4 @@
-mod Bools
+pub mod Bools
 mod First
 mod Found
 pub mod Accepted

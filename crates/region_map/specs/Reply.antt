@@ -1,5 +1,5 @@
 -- What a call answers in document 01's terms, and the first refusal of several. Assumes nothing: these are definitions.
-use mathlib.Core.Bool.{Bool, cond, _&&_}
+use mathlib.Core.Bool.{Bool, true, false, cond, _&&_}
 use Prim.Native.Nat.{ℕ, zero, suc}
 use lib.Dec.{ltb}
 
@@ -31,3 +31,9 @@ pairsOf k clash n i = first (λ j. cond (ltb i j && clash i j) (nodes k i j) acc
 
 unfoldable pub firstPair : ℕ → (ℕ → ℕ → Bool) → ℕ → Reply
 firstPair k clash n = first (pairsOf k clash n) n
+
+-- nothing is refused
+abbrev pub passes : Reply → Bool
+passes accepted = true
+passes (nodes k i j) = false
+passes (place k p) = false

@@ -1,6 +1,7 @@
 // The check of a given map.
 ghost use mathlib.Core.Path.{_≡_};
 ghost use Rattle.region_map.specs.Check.{reply, judged};
+ghost use Rattle.region_map.specs.Reply.{passes};
 use crate::clash::PairRule;
 use crate::fault::NodeRule;
 use crate::map::REGIONS;
@@ -59,4 +60,21 @@ pub fn check_map(map: RegionMap, memory_length: u64) -> MapAnswer
         return MapAnswer::Overlap(i, j);
     }
     MapAnswer::Accepted
+}
+
+// Is the map accepted?
+pub fn accepts(answer: MapAnswer) -> bool
+    ensures { λ r. ⌜ r ≡ passes (reply answer) ⌝ }
+{
+    match answer {
+        MapAnswer::Accepted => true,
+        MapAnswer::Count => false,
+        MapAnswer::Kind(_) => false,
+        MapAnswer::Field(_) => false,
+        MapAnswer::Link(_) => false,
+        MapAnswer::Memory(_, _) => false,
+        MapAnswer::Managed(_, _) => false,
+        MapAnswer::Port(_, _) => false,
+        MapAnswer::Overlap(_, _) => false,
+    }
 }

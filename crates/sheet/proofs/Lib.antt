@@ -1,1 +1,3 @@
-mod Groups
+mod NumberLaws
+mod RegionLaws
+mod SheetLaws

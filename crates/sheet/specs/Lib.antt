@@ -1,2 +1,4 @@
 pub mod Answer
 pub mod Number
+pub mod Region
+pub mod Sheet

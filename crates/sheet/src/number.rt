@@ -2,7 +2,6 @@
 ghost use mathlib.Core.Path.{_≡_};
 ghost use Prim.Native.Nat.{_<_};
 ghost use Rattle.sheet.specs.Number.{number as numberAt, numberOf};
-
 use crate::answer::Cursor;
 use crate::answer::SheetAnswer;
 

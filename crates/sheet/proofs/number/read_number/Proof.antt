@@ -1,4 +1,4 @@
-use Rattle.sheet.proofs.Groups.{Reading, started, scale-bound, group-bound, at-end, at-last-zero, at-last, at-eighth, at-more, at-ninth}
+use Rattle.sheet.proofs.NumberLaws.{Reading, started, scale-bound, group-bound, at-end, at-last-zero, at-last, at-eighth, at-more, at-ninth}
 use Rattle.sheet.specs.Number.{number}
 use Prim.Native.Nat.{_-_}
 use native.Mathlib.Omega.{arith}

@@ -87,7 +87,8 @@ module _ (s : List ℕ) (n : Read ℕ) (at value scale i : ℕ) (r : Reading s n
           most = omega arith;
           power = rw (r .power) (sym (pow-add 2 (7 * i) 7) ∙ ap (λ (x : ℕ). 2 ^ x) (omega arith));
           small = omega (arith, r .small, group-bound (b - 128) (omega arith));
-          rest = shifted-more value scale (b - 128) (groups s (8 - (i + 1)) (ltb 0 (i + 1)) (at + 1)) ∙ ap (shifted value scale) (sym turned) ∙ r .rest }
+          rest = shifted-more value scale (b - 128) (groups s (8 - (i + 1)) (ltb 0 (i + 1)) (at + 1)) ∙ ap (shifted value scale) (sym turned) ∙ r .rest;
+        }
       where
         turned : groups s (8 - i) (ltb 0 i) at ≡ joined (b - 128) (groups s (8 - (i + 1)) (ltb 0 (i + 1)) (at + 1))
         turned =

@@ -1,0 +1,40 @@
+-- One region of a sheet: 'kind, parent + 1 (0 for none), offset, size, priority field; then by kind: RAM and managed memory start; MMIO port; alias target, alias offset; container nothing'. Assumes nothing: these are definitions.
+use mathlib.Core.Bool.{cond}
+use mathlib.Core.List.{List, [], _∷_}
+use Prim.Native.Nat.{ℕ}
+use lib.Dec.{ltb}
+use Rattle.region_map.specs.Map.{managed, has, withValue}
+use Rattle.region_map.specs.Reply.{place}
+use Rattle.region_map.specs.declared.map.Region.{Region}
+use Rattle.region_map.specs.declared.map.Field.{Field}
+use Rattle.region_map.specs.declared.map.Field.the-variants.{Parent, Offset, Size, Priority, MemoryStart, Port, Target, AliasOffset}
+use Rattle.sheet.specs.Answer.{Read, got, refused, next, sheetReply}
+use Rattle.sheet.specs.Number.{number}
+use Rattle.sheet.specs.declared.fields.RegionRead.{RegionRead}
+use Rattle.sheet.specs.declared.fields.RegionRead.the-variants.{Whole, Refused}
+
+-- the fields after the kind, in the order of the sheet; a region has those that its kind has
+abbrev pub sheetFields : List Field
+sheetFields = Parent ∷ Offset ∷ Size ∷ Priority ∷ MemoryStart ∷ Port ∷ Target ∷ AliasOffset ∷ []
+
+-- the field f of the region r, where its kind has it, at a place
+unfoldable pub fieldAt : List ℕ → Field → Region → ℕ → Read Region
+fieldAt s f r at = cond (has (r .kind) f) (next (number s at) (λ v then. got (withValue f v r) then)) (got r at)
+
+-- the fields fs of the region r, one after the other, from a place on
+unfoldable pub fieldsFrom : List ℕ → List Field → Region → ℕ → Read Region
+fieldsFrom s [] r at = got r at
+fieldsFrom s (f ∷ fs) r at = next (fieldAt s f r at) (λ known then. fieldsFrom s fs known then)
+
+-- a region of which the kind alone is known
+abbrev pub ofKind : ℕ → Region
+ofKind k = record { kind = k; parent = 0; offset = 0; size = 0; priority = 0; «memory_start» = 0; port = 0; target = 0; «alias_offset» = 0 }
+
+-- a region at a place: 4 at the kind's first byte, at once
+unfoldable pub regionAt : List ℕ → ℕ → Read Region
+regionAt s at = next (number s at) (λ k then. cond (ltb managed k) (refused (place 4 at)) (fieldsFrom s sheetFields (ofKind k) then))
+
+-- what the reader of one region answers
+abbrev pub regionOf : RegionRead → Read Region
+regionOf (Whole r c) = got r (c .at)
+regionOf (Refused a) = refused (sheetReply a)

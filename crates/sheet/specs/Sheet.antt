@@ -1,0 +1,69 @@
+-- The whole sheet: 'First the node count, then for each node ..', left to right; then the check of the map. Assumes nothing: these are definitions.
+use mathlib.Core.Bool.{cond, _||_}
+use mathlib.Core.List.{List}
+use Prim.Native.Nat.{ℕ, zero, suc}
+use lib.Dec.{eqb, ltb}
+use lib.ListN.{length, replicate, set}
+use Rattle.region_map.specs.Map.{noRegion, emptyMap}
+use Rattle.region_map.specs.Reply.{Reply, accepted, nodes, place}
+use Rattle.region_map.specs.Check.{judged}
+use Rattle.region_map.specs.declared.map.Region.{Region}
+use Rattle.region_map.specs.declared.map.RegionMap.{RegionMap}
+use Rattle.sheet.specs.Answer.{Read, got, refused, next, sheetReply}
+use Rattle.sheet.specs.Number.{number}
+use Rattle.sheet.specs.Region.{regionAt}
+use Rattle.sheet.specs.declared.regions.Progress.{Progress}
+use Rattle.sheet.specs.declared.regions.Progress.the-variants.{Done, Refused}
+use Rattle.sheet.specs.declared.regions.RegionsRead.{RegionsRead}
+use Rattle.sheet.specs.declared.reading.SheetReading.{SheetReading}
+
+-- a map of n regions of which nothing is known yet
+abbrev pub blankMap : ℕ → RegionMap
+blankMap n = record { count = n; regions = replicate 32 noRegion }
+
+abbrev pub withRegion : ℕ → Region → RegionMap → RegionMap
+withRegion n r m = record { count = m .count; regions = set (m .regions) n r }
+
+-- k more regions, the next of them region n, put into the map m
+unfoldable pub regionsFrom : List ℕ → ℕ → ℕ → RegionMap → ℕ → Read RegionMap
+regionsFrom s zero n m at = got m at
+regionsFrom s (suc k) n m at = next (regionAt s at) (λ r then. regionsFrom s k (suc n) (withRegion n r m) then)
+
+-- the map of a sheet, without what may follow it: 3 at the count's first byte, at once
+unfoldable pub mapAt : List ℕ → Read RegionMap
+mapAt s = next (number s 0) (λ n then. cond (eqb n 0 || ltb 32 n) (refused (place 3 0)) (regionsFrom s n 0 (blankMap n) then))
+
+-- document 01's answer, and the map: the empty map with every refusal
+pub record Outcome : Type 0 where
+  pub reply : Reply
+  pub map : RegionMap
+
+abbrev pub refusal : Reply → Outcome
+refusal r = record { reply = r; map = emptyMap }
+
+-- 'Then 6 to 11 in order'
+abbrev pub checked : RegionMap → Reply → Outcome
+checked m accepted = record { reply = accepted; map = m }
+checked m (nodes k i j) = refusal (nodes k i j)
+checked m (place k p) = refusal (place k p)
+
+-- 5: 'bytes remain', at the first left over
+abbrev pub finished : List ℕ → ℕ → Read RegionMap → Outcome
+finished s memory (got m at) = cond (ltb at (length s)) (refusal (place 5 at)) (checked m (judged m memory))
+finished s memory (refused r) = refusal r
+
+-- the sheet s over a memory of so many bytes
+unfoldable pub readSheet : List ℕ → ℕ → Outcome
+readSheet s memory = finished s memory (mapAt s)
+
+-- what the reader of a sheet's regions answers
+abbrev pub progressOf : Progress → RegionMap → Read RegionMap
+progressOf (Done c) m = got m (c .at)
+progressOf (Refused a) m = refused (sheetReply a)
+
+abbrev pub regionsOf : RegionsRead → Read RegionMap
+regionsOf r = progressOf (r .progress) (r .map)
+
+-- what the reader of a sheet answers
+abbrev pub outcomeOf : SheetReading → Outcome
+outcomeOf r = record { reply = sheetReply (r .answer); map = r .map }
