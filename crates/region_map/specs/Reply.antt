@@ -37,3 +37,9 @@ abbrev pub passes : Reply → Bool
 passes accepted = true
 passes (nodes k i j) = false
 passes (place k p) = false
+
+-- the refusal number, and 0 where nothing is refused
+abbrev pub numberOf : Reply → ℕ
+numberOf accepted = 0
+numberOf (nodes k i j) = k
+numberOf (place k p) = k

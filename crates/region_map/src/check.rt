@@ -1,7 +1,7 @@
 // The check of a given map.
 ghost use mathlib.Core.Path.{_≡_};
 ghost use Rattle.region_map.specs.Check.{reply, judged};
-ghost use Rattle.region_map.specs.Reply.{passes};
+ghost use Rattle.region_map.specs.Reply.{numberOf, passes};
 use crate::clash::PairRule;
 use crate::fault::NodeRule;
 use crate::map::REGIONS;
@@ -76,5 +76,22 @@ pub fn accepts(answer: MapAnswer) -> bool
         MapAnswer::Managed(_, _) => false,
         MapAnswer::Port(_, _) => false,
         MapAnswer::Overlap(_, _) => false,
+    }
+}
+
+// Document 01's number of the refusal, and 0 for an accepted map.
+pub fn number_of(answer: MapAnswer) -> u64
+    ensures { λ r. ⌜ r ≡ numberOf (reply answer) ⌝ }
+{
+    match answer {
+        MapAnswer::Accepted => 0,
+        MapAnswer::Count => 3,
+        MapAnswer::Kind(_) => 4,
+        MapAnswer::Field(_) => 6,
+        MapAnswer::Link(_) => 7,
+        MapAnswer::Memory(_, _) => 8,
+        MapAnswer::Managed(_, _) => 9,
+        MapAnswer::Port(_, _) => 10,
+        MapAnswer::Overlap(_, _) => 11,
     }
 }

@@ -1,4 +1,8 @@
 // What reading a sheet can answer.
+ghost use mathlib.Core.Path.{_≡_};
+ghost use Rattle.region_map.specs.Reply.{numberOf};
+ghost use Rattle.sheet.specs.Answer.{sheetReply};
+use region_map::check;
 use region_map::check::MapAnswer;
 
 // A refusal of document 01 at a byte place, 1 to 5; or the sheet was read to its end, and this is what
@@ -15,4 +19,18 @@ pub enum SheetAnswer {
 // The next byte's place.
 pub struct Cursor {
     pub at: usize,
+}
+
+// Document 01's number of the refusal, and 0 for an accepted sheet.
+pub fn number_of(answer: SheetAnswer) -> u64
+    ensures { λ r. ⌜ r ≡ numberOf (sheetReply answer) ⌝ }
+{
+    match answer {
+        SheetAnswer::Short(_) => 1,
+        SheetAnswer::Number(_) => 2,
+        SheetAnswer::Count(_) => 3,
+        SheetAnswer::Kind(_) => 4,
+        SheetAnswer::Tail(_) => 5,
+        SheetAnswer::Checked(map) => check::number_of(map),
+    }
 }

@@ -1,0 +1,10 @@
+// Runs worked and published vectors through the library and prints what it answers. The file stdout
+// beside src/ holds what document 01 says it must be.
+mod maps;
+mod sheets;
+mod show;
+
+fn main() {
+    sheets::run();
+    maps::run();
+}

@@ -1,0 +1,356 @@
+// Sheets, one for each rule of document 01 and more. What each must answer stands in the file stdout.
+use crate::show::sheet_case;
+
+fn read() {
+    sheet_case(
+        b"the map of 001",
+        b"\x05\x02\x03\x00\x80\x20\x00\x04\x02\x03\x80\x40\x80\x20\x00\x05\x00\x05\x80\x40\x80\x80\x01\x82\x01\x02\x05\x00\x80\xc0\x01\x81\x01\x06\x00\x00\x00\x80\x80\x02\x00",
+        65536,
+    );
+    sheet_case(b"the smallest map", b"\x01\x00\x00\x00\x01\x00", 65536);
+}
+
+fn short() {
+    sheet_case(b"the empty sheet", b"", 65536);
+    sheet_case(b"the count alone", b"\x05", 65536);
+    sheet_case(b"a group that promises another", b"\x80", 65536);
+    sheet_case(
+        b"the map of 001 without its last byte",
+        b"\x05\x02\x03\x00\x80\x20\x00\x04\x02\x03\x80\x40\x80\x20\x00\x05\x00\x05\x80\x40\x80\x80\x01\x82\x01\x02\x05\x00\x80\xc0\x01\x81\x01\x06\x00\x00\x00\x80\x80\x02",
+        65536,
+    );
+}
+
+fn number() {
+    sheet_case(b"a last group of 0", b"\x80\x00", 65536);
+    sheet_case(b"a third group of 0", b"\x81\x80\x00", 65536);
+    sheet_case(
+        b"an eighth group with its high bit",
+        b"\x80\x80\x80\x80\x80\x80\x80\x80",
+        65536,
+    );
+    sheet_case(b"a kind whose last group is 0", b"\x01\x80\x00", 65536);
+}
+
+fn count() {
+    sheet_case(b"count 0", b"\x00", 65536);
+    sheet_case(b"count 33, at once", b"\x21", 65536);
+    sheet_case(b"count 32 and no more", b"\x20", 65536);
+    sheet_case(
+        b"the largest count of eight groups",
+        b"\xff\xff\xff\xff\xff\xff\xff\x7f",
+        65536,
+    );
+}
+
+fn kind() {
+    sheet_case(b"kind 5, at once", b"\x01\x05", 65536);
+    sheet_case(b"kind 128 in two groups", b"\x01\x80\x01", 65536);
+    sheet_case(
+        b"kind 5 of the second region",
+        b"\x02\x00\x02\x00\x01\x00\x05",
+        65536,
+    );
+}
+
+fn tail() {
+    sheet_case(
+        b"one byte after the map of 001",
+        b"\x05\x02\x03\x00\x80\x20\x00\x04\x02\x03\x80\x40\x80\x20\x00\x05\x00\x05\x80\x40\x80\x80\x01\x82\x01\x02\x05\x00\x80\xc0\x01\x81\x01\x06\x00\x00\x00\x80\x80\x02\x00\x00",
+        65536,
+    );
+    sheet_case(
+        b"two bytes after a map of size 0",
+        b"\x01\x00\x00\x00\x00\x00\x00\xff",
+        65536,
+    );
+}
+
+fn field_1() {
+    sheet_case(b"size 0", b"\x01\x00\x00\x00\x00\x00", 65536);
+    sheet_case(
+        b"size 2^48",
+        b"\x01\x00\x00\x00\x80\x80\x80\x80\x80\x80\x40\x00",
+        65536,
+    );
+    sheet_case(
+        b"size 2^48 + 1",
+        b"\x01\x00\x00\x00\x81\x80\x80\x80\x80\x80\x40\x00",
+        65536,
+    );
+    sheet_case(
+        b"offset 2^48",
+        b"\x02\x01\x02\x80\x80\x80\x80\x80\x80\x40\x01\x00\x00\x00\x00\x00\x01\x00",
+        65536,
+    );
+}
+
+fn field_2() {
+    sheet_case(
+        b"offset 2^48 + 1",
+        b"\x02\x01\x02\x81\x80\x80\x80\x80\x80\x40\x01\x00\x00\x00\x00\x00\x01\x00",
+        65536,
+    );
+    sheet_case(
+        b"alias offset 2^48 + 1",
+        b"\x03\x01\x00\x00\x01\x00\x00\x03\x03\x00\x01\x00\x00\x81\x80\x80\x80\x80\x80\x40\x00\x00\x00\x80\x80\x04\x00",
+        65536,
+    );
+    sheet_case(
+        b"memory start 2^48 + 1",
+        b"\x02\x01\x02\x00\x01\x00\x81\x80\x80\x80\x80\x80\x40\x00\x00\x00\x80\x80\x04\x00",
+        65536,
+    );
+    sheet_case(
+        b"priority 255",
+        b"\x02\x01\x02\x00\x01\xff\x01\x00\x00\x00\x00\x80\x80\x04\x00",
+        65536,
+    );
+}
+
+fn field_3() {
+    sheet_case(
+        b"priority 256",
+        b"\x02\x01\x02\x00\x01\x80\x02\x00\x00\x00\x00\x80\x80\x04\x00",
+        65536,
+    );
+    sheet_case(
+        b"port 255",
+        b"\x02\x02\x02\x00\x01\x00\xff\x01\x00\x00\x00\x80\x80\x04\x00",
+        65536,
+    );
+    sheet_case(
+        b"port 256",
+        b"\x02\x02\x02\x00\x01\x00\x80\x02\x00\x00\x00\x80\x80\x04\x00",
+        65536,
+    );
+    sheet_case(
+        b"the lowest of two regions at fault",
+        b"\x03\x01\x03\x00\x01\x00\x00\x01\x03\x01\x00\x00\x01\x00\x00\x00\x00\x00",
+        65536,
+    );
+}
+
+fn link_1() {
+    sheet_case(
+        b"a parent below its child",
+        b"\x03\x00\x03\x00\x01\x00\x00\x01\x00\x01\x00\x00\x00\x00\x80\x80\x04\x00",
+        65536,
+    );
+    sheet_case(
+        b"a region that is its own parent",
+        b"\x02\x00\x01\x00\x01\x00\x00\x00\x00\x80\x80\x04\x00",
+        65536,
+    );
+    sheet_case(
+        b"a parent at the count",
+        b"\x02\x00\x03\x00\x01\x00\x00\x00\x00\x80\x80\x04\x00",
+        65536,
+    );
+    sheet_case(
+        b"a parent that is an alias",
+        b"\x04\x00\x00\x00\x01\x00\x00\x03\x00\x01\x00\x03\x04\x00\x01\x00\x00\x00\x00\x00\x00\x80\x80\x04\x00",
+        65536,
+    );
+}
+
+fn link_2() {
+    sheet_case(
+        b"a parent that is managed",
+        b"\x03\x00\x02\x00\x01\x00\x04\x03\x00\x01\x00\x00\x00\x00\x00\x80\x80\x04\x00",
+        65536,
+    );
+    sheet_case(
+        b"an alias that points at itself",
+        b"\x02\x03\x02\x00\x01\x00\x00\x00\x00\x00\x00\x80\x80\x04\x00",
+        65536,
+    );
+    sheet_case(
+        b"an alias that points at the root",
+        b"\x02\x03\x02\x00\x01\x00\x01\x00\x00\x00\x00\x80\x80\x04\x00",
+        65536,
+    );
+    sheet_case(b"a root with an offset", b"\x01\x00\x00\x01\x01\x00", 65536);
+}
+
+fn link_3() {
+    sheet_case(
+        b"a root that is RAM",
+        b"\x01\x01\x00\x00\x01\x00\x00",
+        65536,
+    );
+    sheet_case(
+        b"a region under no parent",
+        b"\x02\x01\x00\x00\x01\x00\x00\x00\x00\x00\x80\x80\x04\x00",
+        65536,
+    );
+    sheet_case(
+        b"RAM under RAM",
+        b"\x03\x01\x02\x00\x01\x00\x00\x01\x03\x00\x02\x00\x01\x00\x00\x00\x80\x80\x04\x00",
+        65536,
+    );
+}
+
+fn memory_1() {
+    sheet_case(
+        b"RAM of the whole memory",
+        b"\x02\x01\x02\x00\x80\x80\x04\x00\x00\x00\x00\x00\x80\x80\x04\x00",
+        65536,
+    );
+    sheet_case(
+        b"RAM one byte too long",
+        b"\x02\x01\x02\x00\x81\x80\x04\x00\x00\x00\x00\x00\x80\x80\x04\x00",
+        65536,
+    );
+    sheet_case(
+        b"RAM that starts one byte too late",
+        b"\x02\x01\x02\x00\x80\x80\x04\x00\x01\x00\x00\x00\x80\x80\x04\x00",
+        65536,
+    );
+    sheet_case(
+        b"two RAM ranges side by side",
+        b"\x03\x01\x03\x00\x02\x00\x00\x01\x03\x02\x01\x00\x02\x00\x00\x00\x80\x80\x04\x00",
+        65536,
+    );
+}
+
+fn memory_2() {
+    sheet_case(
+        b"two RAM ranges that share one byte",
+        b"\x03\x01\x03\x00\x02\x00\x00\x01\x03\x02\x01\x00\x01\x00\x00\x00\x80\x80\x04\x00",
+        65536,
+    );
+    sheet_case(
+        b"RAM and managed memory that share one byte",
+        b"\x03\x01\x03\x00\x02\x00\x04\x04\x03\x02\x04\x00\x01\x00\x00\x00\x80\x80\x04\x00",
+        65536,
+    );
+    sheet_case(
+        b"an end past the memory comes before a pair",
+        b"\x04\x01\x04\x00\x02\x00\x00\x01\x04\x02\x01\x00\x01\x01\x04\x03\x02\x00\xff\xff\x03\x00\x00\x00\x80\x80\x04\x00",
+        65536,
+    );
+    sheet_case(
+        b"the memory a byte shorter than the map needs",
+        b"\x02\x01\x02\x00\x10\x00\x00\x00\x00\x00\x80\x80\x04\x00",
+        15,
+    );
+}
+
+fn managed() {
+    sheet_case(
+        b"one managed region",
+        b"\x02\x04\x02\x00\x80\x20\x00\x00\x00\x00\x00\x80\x80\x04\x00",
+        65536,
+    );
+    sheet_case(
+        b"two managed regions",
+        b"\x03\x04\x03\x00\x01\x00\x00\x04\x03\x01\x01\x00\x01\x00\x00\x00\x80\x80\x04\x00",
+        65536,
+    );
+    sheet_case(
+        b"three managed regions, the second after RAM",
+        b"\x05\x01\x05\x00\x01\x00\x09\x04\x05\x01\x01\x00\x00\x04\x05\x02\x01\x00\x01\x04\x05\x03\x01\x00\x02\x00\x00\x00\x80\x80\x04\x00",
+        65536,
+    );
+}
+
+fn port() {
+    sheet_case(
+        b"one port twice",
+        b"\x03\x02\x03\x00\x01\x00\x07\x02\x03\x01\x01\x00\x07\x00\x00\x00\x80\x80\x04\x00",
+        65536,
+    );
+    sheet_case(
+        b"the first pair in ascending order",
+        b"\x05\x02\x05\x00\x01\x00\x01\x02\x05\x01\x01\x00\x02\x02\x05\x02\x01\x00\x02\x02\x05\x03\x01\x00\x01\x00\x00\x00\x80\x80\x04\x00",
+        65536,
+    );
+    sheet_case(
+        b"port 0 of two windows",
+        b"\x03\x02\x03\x00\x01\x00\x00\x02\x03\x01\x01\x00\x00\x00\x00\x00\x80\x80\x04\x00",
+        65536,
+    );
+}
+
+fn overlap_1() {
+    sheet_case(
+        b"equal priorities that share one address",
+        b"\x03\x02\x03\x00\x02\x00\x01\x02\x03\x01\x01\x00\x02\x00\x00\x00\x80\x80\x04\x00",
+        65536,
+    );
+    sheet_case(
+        b"equal priorities that share none",
+        b"\x03\x02\x03\x00\x02\x00\x01\x02\x03\x02\x01\x00\x02\x00\x00\x00\x80\x80\x04\x00",
+        65536,
+    );
+    sheet_case(
+        b"priority fields 0 and 128 are equal",
+        b"\x03\x02\x03\x00\x02\x00\x01\x02\x03\x01\x01\x80\x01\x02\x00\x00\x00\x80\x80\x04\x00",
+        65536,
+    );
+    sheet_case(
+        b"priority fields 0 and 129 are not",
+        b"\x03\x02\x03\x00\x02\x00\x01\x02\x03\x01\x01\x81\x01\x02\x00\x00\x00\x80\x80\x04\x00",
+        65536,
+    );
+}
+
+fn overlap_2() {
+    sheet_case(
+        b"children of two parents",
+        b"\x05\x02\x03\x00\x02\x00\x01\x02\x04\x00\x02\x00\x02\x00\x05\x00\x02\x00\x00\x05\x02\x02\x00\x00\x00\x00\x80\x80\x04\x00",
+        65536,
+    );
+    sheet_case(
+        b"two regions under no parent",
+        b"\x03\x02\x00\x00\x02\x00\x01\x02\x00\x00\x02\x00\x02\x00\x00\x00\x80\x80\x04\x00",
+        65536,
+    );
+}
+
+fn order() {
+    sheet_case(
+        b"6 at a higher region before 7 at a lower",
+        b"\x03\x00\x01\x00\x01\x00\x00\x03\x00\x00\x00\x00\x00\x00\x80\x80\x04\x00",
+        65536,
+    );
+    sheet_case(
+        b"7 before 8",
+        b"\x03\x01\x03\x00\x81\x80\x04\x00\x00\x03\x03\x00\x01\x00\x01\x00\x00\x00\x00\x80\x80\x04\x00",
+        65536,
+    );
+    sheet_case(
+        b"9 before 10",
+        b"\x05\x02\x05\x00\x01\x00\x01\x02\x05\x01\x01\x00\x01\x04\x05\x02\x01\x00\x00\x04\x05\x03\x01\x00\x01\x00\x00\x00\x80\x80\x04\x00",
+        65536,
+    );
+    sheet_case(
+        b"10 before 11",
+        b"\x05\x02\x05\x00\x02\x00\x01\x02\x05\x01\x01\x00\x02\x02\x05\x03\x01\x00\x03\x02\x05\x04\x01\x00\x03\x00\x00\x00\x80\x80\x04\x00",
+        65536,
+    );
+}
+
+// All of them, in the order of the refusal numbers.
+pub fn run() {
+    read();
+    short();
+    number();
+    count();
+    kind();
+    tail();
+    field_1();
+    field_2();
+    field_3();
+    link_1();
+    link_2();
+    link_3();
+    memory_1();
+    memory_2();
+    managed();
+    port();
+    overlap_1();
+    overlap_2();
+    order();
+}
