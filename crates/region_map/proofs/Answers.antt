@@ -9,7 +9,7 @@ use Rattle.region_map.specs.declared.check.MapAnswer.{MapAnswer}
 use Rattle.region_map.specs.declared.check.MapAnswer.the-variants as answer
 
 -- the answer of a number with its nodes
-abbrev answerOf : Reply → MapAnswer
+abbrev pub answerOf : Reply → MapAnswer
 answerOf accepted = answer.Accepted
 answerOf (nodes k i j) =
     cond (eqb k 3) answer.Count
@@ -20,16 +20,16 @@ answerOf (nodes k i j) =
     (cond (eqb k 9) (answer.Managed i j) (cond (eqb k 10) (answer.Port i j) (answer.Overlap i j)))))))
 answerOf (place k p) = answer.Accepted
 
-back : (a : MapAnswer) → answerOf (reply a) ≡ a
-back answer.Accepted = refl
-back answer.Count = refl
-back (answer.Kind n) = refl
-back (answer.Field n) = refl
-back (answer.Link n) = refl
-back (answer.Memory i j) = refl
-back (answer.Managed i j) = refl
-back (answer.Port i j) = refl
-back (answer.Overlap i j) = refl
+pub reply-back : (a : MapAnswer) → answerOf (reply a) ≡ a
+reply-back answer.Accepted = refl
+reply-back answer.Count = refl
+reply-back (answer.Kind n) = refl
+reply-back (answer.Field n) = refl
+reply-back (answer.Link n) = refl
+reply-back (answer.Memory i j) = refl
+reply-back (answer.Managed i j) = refl
+reply-back (answer.Port i j) = refl
+reply-back (answer.Overlap i j) = refl
 
 pub reply-injective : (a b : MapAnswer) → reply a ≡ reply b → a ≡ b
-reply-injective a b e = sym (back a) ∙ ap answerOf e ∙ back b
+reply-injective a b e = sym (reply-back a) ∙ ap answerOf e ∙ reply-back b
