@@ -8,7 +8,8 @@ use borrow.Author.Tests.{ltb-true, ltb-false, leb-false, eqb-true, eqb-false, no
 use Rattle.region_map.specs.Map.{container, mmio, alias, managed, has, valueOf, region}
 use Rattle.region_map.specs.Fault.{limit, parentOf, backed, extra, largeFault, rangeFault, extraFault, fieldFault, parentFault, targetFault, rootFault, linkFault, memoryFault, fault}
 use Rattle.region_map.specs.Clash.{share, priorityOf, memoryClash, managedClash, portClash, siblings, siblingClash, clash}
-use Rattle.region_map.specs.Reply.{Reply, accepted, nodes, _then_, lowest, firstPair}
+use Rattle.region_map.specs.Reply.{Reply, accepted, nodes, place, _then_, passes, lowest, firstPair}
+use Rattle.region_map.specs.Span.{Walkable}
 use Rattle.region_map.specs.Check.{judged, countFault, Accepted}
 use Rattle.region_map.specs.Sound.{Apart, Bounded, Parented, Rooted, Sound}
 use Rattle.region_map.specs.declared.map.Region.{Region}
@@ -207,3 +208,22 @@ module _ (m : RegionMap) (length : ℕ) where
 
   pub accepted-sound : Accepted m length → Sound m length
   accepted-sound ok = sound-of (passed ok)
+
+-- what a caller of the check knows
+pub is-accepted : (m : RegionMap) (length : ℕ) (r : Reply) → r ≡ judged m length → passes r ≡ true → Accepted m length
+unfolding Accepted
+is-accepted m length accepted e p = sym e
+is-accepted m length (nodes k i j) e p = absurd (never (sym p))
+is-accepted m length (place k q) e p = absurd (never (sym p))
+
+pub sound-walkable : (m : RegionMap) (length : ℕ) → Sound m length → Walkable m
+sound-walkable m length s =
+    record {
+      count = s .count;
+      targets = s .targets;
+      sizes = λ n h. s .bounded n h .size;
+      aliases = λ n h. s .bounded n h .alias;
+      priorities = λ n h. s .bounded n h .priority }
+
+pub accepted-walkable : (m : RegionMap) (length : ℕ) → Accepted m length → Walkable m
+accepted-walkable m length ok = sound-walkable m length (accepted-sound m length ok)

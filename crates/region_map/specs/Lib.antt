@@ -4,3 +4,6 @@ pub mod Fault
 pub mod Clash
 pub mod Check
 pub mod Sound
+pub mod Walk
+pub mod Span
+pub mod Resolve

@@ -27,7 +27,7 @@ fn share(a: u64, s: u64, b: u64, t: u64) -> bool
 }
 
 // The priority + 128: field 0 stands for priority 0.
-fn priority_of(r: Region) -> u64
+pub fn priority_of(r: Region) -> u64
     ensures { λ p. ⌜ p ≡ priorityOf r ⌝ }
 {
     if r.priority == 0 { 128 } else { r.priority }

@@ -1,7 +1,10 @@
-// The region map under the guest: its records, and the check that accepts a given map or refuses it
-// with a number of document 01.
+// The region map under the guest: its records, the check that accepts a given map or refuses it with
+// a number of document 01, the walk through the tree, and the flat view.
 pub mod check;
+mod children;
 mod clash;
 mod fault;
 pub mod map;
+pub mod resolve;
 mod search;
+mod walk;

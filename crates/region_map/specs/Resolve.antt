@@ -1,0 +1,29 @@
+-- The walk of a given map at a guest address. Assumes nothing: these are definitions.
+use Prim.Native.Nat.{ℕ}
+use Rattle.region_map.specs.Reply.{Reply, accepted, nodes, place}
+use Rattle.region_map.specs.Check.{reply, judged}
+use Rattle.region_map.specs.Walk.{walkRoot}
+use Rattle.region_map.specs.declared.map.RegionMap.{RegionMap}
+use Rattle.region_map.specs.declared.resolve.Resolved.{Resolved}
+use Rattle.region_map.specs.declared.resolve.Resolution.{Resolution}
+use Rattle.region_map.specs.declared.resolve.Resolution.the-variants.{Refused, Answered}
+
+-- a refusal of the map, or what the tree answers
+pub data Led : Type 0 where
+  refused : Reply → Led
+  leads : Resolved → Led
+
+-- an accepted map answers
+abbrev pub ifAccepted : Reply → Resolved → Led
+ifAccepted accepted x = leads x
+ifAccepted (nodes k i j) x = refused (nodes k i j)
+ifAccepted (place k p) x = refused (place k p)
+
+-- the given map m over a memory of `length` bytes, at the guest address a
+unfoldable pub resolved : RegionMap → ℕ → ℕ → Led
+resolved m length a = ifAccepted (judged m length) (walkRoot m a)
+
+-- what the public walk answers
+abbrev pub ledBy : Resolution → Led
+ledBy (Refused a) = refused (reply a)
+ledBy (Answered x) = leads x

@@ -1,0 +1,39 @@
+-- What the walk's functions promise each other: the answer with a number of following addresses over which it only shifts. No promise of an entry point cites these. Assumes nothing: these are definitions.
+use mathlib.Core.Path.{_≡_}
+use mathlib.Core.Bool.{Bool, true, false}
+use Prim.Native.Nat.{ℕ, _+_, _^_, _≤_, _<_}
+use Rattle.region_map.specs.Map.{alias, region}
+use Rattle.region_map.specs.Walk.{ranked}
+use Rattle.region_map.specs.declared.map.RegionMap.{RegionMap}
+use Rattle.region_map.specs.declared.walk.Seen.{Seen}
+use Rattle.region_map.specs.declared.resolve.Resolved.{Resolved}
+use Rattle.region_map.specs.declared.resolve.Resolved.the-variants.{Nothing, At}
+
+-- the same answer, d bytes on
+abbrev pub shift : ℕ → Resolved → Resolved
+shift d Nothing = Nothing
+shift d (At n o) = At n (record { 0 = o .0 + d })
+
+-- f answers the same, byte after byte, at the s addresses from a on
+unfoldable pub Steady : (ℕ → Resolved) → ℕ → ℕ → Type 0
+Steady f a s = (d : ℕ) → d < s → f (a + d) ≡ shift d (f a)
+
+-- r is what f answers at a, with a number of addresses over which that is steady
+pub record Sees (f : ℕ → Resolved) (a : ℕ) (r : Seen) : Type 0 where
+  pub answer : r .answer ≡ f a
+  pub some : 0 < r .span
+  pub steady : Steady f a (r .span)
+
+-- what the walk needs of a map; `Sound` gives it
+pub record Walkable (m : RegionMap) : Type 0 where
+  pub count : m .count ≤ 32
+  pub targets : (n : ℕ) → n < m .count → region m n .kind ≡ alias → region m n .target < n
+  pub sizes : (n : ℕ) → n < m .count → region m n .size ≤ 2 ^ 48
+  pub aliases : (n : ℕ) → n < m .count → region m n .«alias_offset» ≤ 2 ^ 48
+  pub priorities : (n : ℕ) → n < m .count → region m n .priority ≤ 255
+
+-- what the search for the next child finds: 0 where no child of n has a rank below b, else one more than the highest such rank
+pub record NextChild (m : RegionMap) (n b r : ℕ) : Type 0 where
+  pub within : r ≤ b
+  pub found : (k : ℕ) → r ≡ k + 1 → ranked m n k ≡ true
+  pub above : (k : ℕ) → r ≤ k → k < b → ranked m n k ≡ false

@@ -1,0 +1,68 @@
+-- The walk through a region map ('The tree'; source 001, Visibility): what a region answers at an address inside it, on every map. Assumes nothing: these are definitions.
+use mathlib.Core.Bool.{Bool, true, false, _&&_, cond}
+use Prim.Native.Nat.{ℕ, zero, suc, _+_, _-_, _*_, _%_}
+use lib.Dec.{eqb, leb, ltb}
+use Rattle.region_map.specs.Map.{container, alias, region}
+use Rattle.region_map.specs.Clash.{priorityOf}
+use Rattle.region_map.specs.declared.map.RegionMap.{RegionMap}
+use Rattle.region_map.specs.declared.map.RegionOffset.{RegionOffset}
+use Rattle.region_map.specs.declared.resolve.Resolved.{Resolved}
+use Rattle.region_map.specs.declared.resolve.Resolved.the-variants.{Nothing, At}
+
+-- The order of children: by priority, and among equal priorities by number. Equal priorities never share an address in an accepted map, so there the numbers settle nothing.
+unfoldable pub rank : RegionMap → ℕ → ℕ
+rank m c = priorityOf (region m c) * 32 + c
+
+-- c is a child of n: a region below n that names it as its parent
+unfoldable pub child : RegionMap → ℕ → ℕ → Bool
+child m n c = ltb c n && eqb (region m c .parent) (n + 1)
+
+-- r is the rank of a child of n, the region r % 32
+unfoldable pub ranked : RegionMap → ℕ → ℕ → Bool
+ranked m n r = child m n (r % 32) && eqb (rank m (r % 32)) r
+
+-- the first that answers
+abbrev pub orElse : Resolved → Resolved → Resolved
+orElse Nothing b = b
+orElse (At n o) b = At n o
+
+-- 'whose range [offset, offset + size) holds the address'
+unfoldable pub holds : RegionMap → ℕ → ℕ → Bool
+holds m c a = leb (region m c .offset) a && ltb a (region m c .offset + region m c .size)
+
+-- 'each walked with address - offset': child c at the address a of its parent, where it holds a; `under` walks a region at an address inside it
+unfoldable pub asked : RegionMap → (ℕ → ℕ → Resolved) → ℕ → ℕ → Resolved
+asked m under c a = cond (holds m c a) (under c (a - region m c .offset)) Nothing
+
+-- 'If none does: a container answers nothing, any other kind answers itself at that address'
+unfoldable pub own : RegionMap → ℕ → ℕ → Resolved
+own m n a = cond (eqb (region m n .kind) container) Nothing (At n (record { 0 = a }))
+
+-- what the child of rank r answers, where there is one
+unfoldable pub answer : RegionMap → (ℕ → ℕ → Resolved) → ℕ → ℕ → ℕ → Resolved
+answer m under n r a = cond (ranked m n r) (asked m under (r % 32) a) Nothing
+
+-- 'highest priority first .. the first that answers wins': the children of n whose ranks are below r; if none answers, n itself
+unfoldable pub tried : RegionMap → (ℕ → ℕ → Resolved) → ℕ → ℕ → ℕ → Resolved
+tried m under n zero a = own m n a
+tried m under n (suc r) a = orElse (answer m under n r a) (tried m under n r a)
+
+-- region n at a, where `under` walks the regions below n: 'address not below the size: nothing; alias: walk at the target with address + alias offset; otherwise take the children'. Every rank is below 256 * 32.
+unfoldable pub visit : RegionMap → (ℕ → ℕ → Resolved) → ℕ → ℕ → Resolved
+visit m under n a =
+    cond (leb (region m n .size) a) Nothing
+    (cond (eqb (region m n .kind) alias) (under (region m n .target) (a + region m n .«alias_offset»))
+    (tried m under n 8192 a))
+
+-- the walk at the regions below k; nothing at others
+unfoldable pub walkBelow : RegionMap → ℕ → ℕ → ℕ → Resolved
+walkBelow m zero n a = Nothing
+walkBelow m (suc k) n a = cond (eqb n k) (visit m (walkBelow m k) n a) (walkBelow m k n a)
+
+-- the walk at region n
+unfoldable pub walk : RegionMap → ℕ → ℕ → Resolved
+walk m n a = visit m (walkBelow m n) n a
+
+-- 'The root is the last. .. A guest address is walked from the root.'
+unfoldable pub walkRoot : RegionMap → ℕ → Resolved
+walkRoot m a = walk m (m .count - 1) a

@@ -1,0 +1,44 @@
+// The walk of a given map at a guest address.
+ghost use mathlib.Core.Path.{_≡_};
+ghost use Rattle.region_map.specs.Resolve.{resolved, ledBy};
+
+use crate::check::accepts;
+use crate::check::check_map;
+use crate::check::MapAnswer;
+use crate::map::GuestAddress;
+use crate::map::RegionMap;
+use crate::map::RegionOffset;
+use crate::walk::walk;
+
+// What the tree answers at an address: nothing, or a region with the offset inside it.
+pub enum Resolved {
+    Nothing,
+    At(usize, RegionOffset),
+}
+
+// A refusal of the map, or what the tree answers.
+pub enum Resolution {
+    Refused(MapAnswer),
+    Answered(Resolved),
+}
+
+// A guest address is walked from the root: there it is the offset.
+pub fn root_offset(address: GuestAddress) -> RegionOffset
+    ensures { λ r. ⌜ r .0 ≡ address .0 ⌝ }
+{
+    RegionOffset(address.0)
+}
+
+// The region that a guest address leads to, in a map that is judged first.
+pub fn resolve_address(map: RegionMap, memory_length: u64, address: GuestAddress) -> Resolution
+    ensures { λ r. ⌜ ledBy r ≡ resolved map «memory_length» (address .0) ⌝ }
+{
+    let answer = check_map(map, memory_length);
+    if accepts(answer) {
+        let root = map.count - 1;
+        let seen = walk(map, root, root_offset(address));
+        let led = seen.answer;
+        return Resolution::Answered(led);
+    }
+    Resolution::Refused(answer)
+}
