@@ -3,7 +3,7 @@ use mathlib.Core.Path.{_≡_, refl, sym, ap, _∙_}
 use mathlib.Core.Bool.{cond}
 use Prim.Native.Nat.{ℕ}
 use lib.Dec.{eqb}
-use Rattle.region_map.specs.Reply.{Reply, accepted, nodes, place}
+use Rattle.region_map.specs.Reply.{Reply, accepted, nodes, place, plain}
 use Rattle.region_map.specs.Check.{reply}
 use Rattle.region_map.specs.declared.check.MapAnswer.{MapAnswer}
 use Rattle.region_map.specs.declared.check.MapAnswer.the-variants as answer
@@ -19,6 +19,7 @@ answerOf (nodes k i j) =
     (cond (eqb k 8) (answer.Memory i j)
     (cond (eqb k 9) (answer.Managed i j) (cond (eqb k 10) (answer.Port i j) (answer.Overlap i j)))))))
 answerOf (place k p) = answer.Accepted
+answerOf (plain k) = answer.Accepted
 
 pub reply-back : (a : MapAnswer) → answerOf (reply a) ≡ a
 reply-back answer.Accepted = refl

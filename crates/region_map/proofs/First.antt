@@ -7,18 +7,20 @@ use native.Mathlib.Omega.{arith}
 use native.Mathlib.Nat.{eq-or-lt-of-le}
 use lib.Dec.{ltb}
 use borrow.Author.Tests.{ltb-true, lt-ltb}
-use Rattle.region_map.specs.Reply.{Reply, accepted, nodes, place, _then_, first, lowest, pairsOf, firstPair}
+use Rattle.region_map.specs.Reply.{Reply, accepted, nodes, place, plain, _then_, first, lowest, pairsOf, firstPair}
 
 -- a sequence that refuses refuses in one of its parts, and one that passes passes in both
 pub then-left : (a b : Reply) → (a then b) ≡ accepted → a ≡ accepted
 then-left accepted b e = refl
 then-left (nodes k i j) b e = e
 then-left (place k p) b e = e
+then-left (plain k) b e = e
 
 pub then-right : (a b : Reply) → (a then b) ≡ accepted → b ≡ accepted
 then-right accepted b e = e
 then-right (nodes k i j) b e = absurd (let z : _≡_ {A = ℕ} 0 1 = cc in omega arith)
 then-right (place k p) b e = absurd (let z : _≡_ {A = ℕ} 0 1 = cc in omega arith)
+then-right (plain k) b e = absurd (let z : _≡_ {A = ℕ} 0 1 = cc in omega arith)
 
 module _ (f : ℕ → Reply) where
   pub first-none : (n : ℕ) → ((i : ℕ) → i < n → f i ≡ accepted) → first f n ≡ accepted

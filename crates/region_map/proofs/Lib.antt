@@ -1,7 +1,14 @@
-pub mod Bools
-mod First
-mod Found
-mod ResolveLaws
-pub mod WalkLaws
 pub mod Accepted
 pub mod Answers
+pub mod Bools
+mod First
+pub mod FlatLaws
+mod Found
+pub mod LeafLaws
+mod PushLaws
+mod RangeTests
+mod ResolveLaws
+mod SweepLaws
+pub mod UniqueLaws
+mod ViewLaws
+pub mod WalkLaws

@@ -2,7 +2,7 @@
 use mathlib.Core.Path.{_≡_, refl, sym, ap, _∙_}
 use mathlib.Core.Bool.{Bool, true, false}
 use Prim.Native.Nat.{ℕ}
-use Rattle.region_map.specs.Reply.{Reply, accepted, nodes, place, passes}
+use Rattle.region_map.specs.Reply.{Reply, accepted, nodes, place, plain, passes}
 use Rattle.region_map.specs.Check.{judged, Accepted}
 use Rattle.region_map.specs.Walk.{walkRoot}
 use Rattle.region_map.specs.Resolve.{Led, refused, leads, ifAccepted, resolved}
@@ -22,3 +22,4 @@ not-led m length a r e p = go r p ∙ ap (λ (j : Reply). ifAccepted j (walkRoot
     go accepted q = absurd (never q)
     go (nodes k i j) q = refl
     go (place k p) q = refl
+    go (plain k) q = refl

@@ -166,7 +166,7 @@ sees-later {f} {a} k s = record {
 
 -- A child.
 
-past : (m : RegionMap) (n x : ℕ) → region m n .size ≤ x → walk m n x ≡ Nothing
+pub past : (m : RegionMap) (n x : ℕ) → region m n .size ≤ x → walk m n x ≡ Nothing
 unfolding walk visit
 past m n x l = rw (le-leb _ _ l)
 

@@ -7,3 +7,5 @@ pub mod Sound
 pub mod Walk
 pub mod Span
 pub mod Resolve
+pub mod FlatList
+pub mod Flatten

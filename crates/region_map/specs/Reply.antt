@@ -3,11 +3,12 @@ use mathlib.Core.Bool.{Bool, true, false, cond, _&&_}
 use Prim.Native.Nat.{ℕ, zero, suc}
 use lib.Dec.{ltb}
 
--- 'Refusal numbers': nothing refused, or a number with two nodes, or a number with a byte place
+-- 'Refusal numbers': nothing refused, or a number with two nodes, with a byte place, or alone
 pub data Reply : Type 0 where
   accepted : Reply
   nodes : ℕ → ℕ → ℕ → Reply
   place : ℕ → ℕ → Reply
+  plain : ℕ → Reply
 
 infixl 20 _then_
 -- the first of two that refuses
@@ -15,6 +16,7 @@ abbrev pub _then_ : Reply → Reply → Reply
 accepted then b = b
 nodes k i j then b = nodes k i j
 place k p then b = place k p
+plain k then b = plain k
 
 -- the first refusal of f 0, f 1, .. below n
 unfoldable pub first : (ℕ → Reply) → ℕ → Reply
@@ -37,9 +39,11 @@ abbrev pub passes : Reply → Bool
 passes accepted = true
 passes (nodes k i j) = false
 passes (place k p) = false
+passes (plain k) = false
 
 -- the refusal number, and 0 where nothing is refused
 abbrev pub numberOf : Reply → ℕ
 numberOf accepted = 0
 numberOf (nodes k i j) = k
 numberOf (place k p) = k
+numberOf (plain k) = k

@@ -37,3 +37,8 @@ pub record NextChild (m : RegionMap) (n b r : ℕ) : Type 0 where
   pub within : r ≤ b
   pub found : (k : ℕ) → r ≡ k + 1 → ranked m n k ≡ true
   pub above : (k : ℕ) → r ≤ k → k < b → ranked m n k ≡ false
+
+-- the region of an answer has a place in the map's array
+abbrev pub Indexed : Resolved → Type 0
+Indexed Nothing = Unit {0}
+Indexed (At n o) = n < 32

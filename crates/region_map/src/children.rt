@@ -3,7 +3,6 @@ ghost use mathlib.Core.Path.{_≡_};
 ghost use Prim.Native.Nat.{_≤_, _<_};
 ghost use Rattle.region_map.specs.Walk.{rank as rankOf};
 ghost use Rattle.region_map.specs.Span.{Walkable, NextChild};
-
 use crate::clash::priority_of;
 use crate::map::RegionMap;
 

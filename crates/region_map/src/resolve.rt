@@ -1,10 +1,9 @@
 // The walk of a given map at a guest address.
 ghost use mathlib.Core.Path.{_≡_};
 ghost use Rattle.region_map.specs.Resolve.{resolved, ledBy};
-
+use crate::check::MapAnswer;
 use crate::check::accepts;
 use crate::check::check_map;
-use crate::check::MapAnswer;
 use crate::map::GuestAddress;
 use crate::map::RegionMap;
 use crate::map::RegionOffset;

@@ -4,12 +4,11 @@ ghost use mathlib.Core.Path.{_≡_};
 ghost use Prim.Native.Nat.{_≤_, _<_};
 ghost use Rattle.region_map.specs.Walk.{walk as walkOf, tried, walkBelow};
 ghost use Rattle.region_map.specs.Span.{Walkable, Sees};
-
 use crate::children::next_child;
-use crate::map::RegionMap;
-use crate::map::RegionOffset;
 use crate::map::ALIAS;
 use crate::map::CONTAINER;
+use crate::map::RegionMap;
+use crate::map::RegionOffset;
 use crate::resolve::Resolved;
 
 // An answer, and over how many addresses from the one asked it only shifts.

@@ -3,7 +3,7 @@ use mathlib.Core.Path.{_≡_, refl, sym, ap, _∙_}
 use mathlib.Core.Bool.{cond}
 use Prim.Native.Nat.{ℕ}
 use lib.Dec.{eqb}
-use Rattle.region_map.specs.Reply.{Reply, accepted, nodes, place}
+use Rattle.region_map.specs.Reply.{Reply, accepted, nodes, place, plain}
 use Rattle.region_map.specs.Check.{reply}
 use Rattle.region_map.specs.declared.check.MapAnswer.{MapAnswer}
 use Rattle.region_map.specs.declared.check.MapAnswer.the-variants as map
@@ -16,6 +16,7 @@ use Rattle.sheet.specs.declared.answer.SheetAnswer.the-variants.{Short, 
 abbrev sheetAnswerOf : Reply → SheetAnswer
 sheetAnswerOf accepted = Checked (answerOf accepted)
 sheetAnswerOf (nodes k i j) = Checked (answerOf (nodes k i j))
+sheetAnswerOf (plain k) = Checked (answerOf (plain k))
 sheetAnswerOf (place k p) = cond (eqb k 1) (Short p) (cond (eqb k 2) (Number p) (cond (eqb k 3) (Count p) (cond (eqb k 4) (Kind p) (Tail p))))
 
 checked-back : (a : MapAnswer) → sheetAnswerOf (reply a) ≡ Checked (answerOf (reply a))

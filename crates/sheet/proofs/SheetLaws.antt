@@ -9,7 +9,7 @@ use lib.Dec.{eqb, ltb}
 use lib.ListN.{length}
 use borrow.Author.Tests.{ltb-false}
 use Rattle.region_map.proofs.Bools.{or-right}
-use Rattle.region_map.specs.Reply.{Reply, accepted, nodes, place, passes}
+use Rattle.region_map.specs.Reply.{Reply, accepted, nodes, place, plain, passes}
 use Rattle.region_map.specs.declared.map.Region.{Region}
 use Rattle.region_map.specs.declared.map.RegionMap.{RegionMap}
 use Rattle.sheet.specs.Answer.{Read, got, refused, next}
@@ -39,11 +39,13 @@ pub checked-passed : (m : RegionMap) (r j : Reply) → r ≡ j → passes r ≡ 
 checked-passed m accepted j e p = rw (← e)
 checked-passed m (nodes k i l) j e p = absurd (let z : _≡_ {A = ℕ} 0 1 = cc in omega arith)
 checked-passed m (place k q) j e p = absurd (let z : _≡_ {A = ℕ} 0 1 = cc in omega arith)
+checked-passed m (plain k) j e p = absurd (let z : _≡_ {A = ℕ} 0 1 = cc in omega arith)
 
 pub checked-refused : (m : RegionMap) (r j : Reply) → r ≡ j → passes r ≡ false → refusal r ≡ checked m j
 checked-refused m accepted j e p = absurd (let z : _≡_ {A = ℕ} 0 1 = cc in omega arith)
 checked-refused m (nodes k i l) j e p = rw (← e)
 checked-refused m (place k q) j e p = rw (← e)
+checked-refused m (plain k) j e p = rw (← e)
 
 module _ (s : List ℕ) (memory : ℕ) where
   pub sheet-number : (a : Reply) → number s 0 ≡ refused a → refusal a ≡ readSheet s memory

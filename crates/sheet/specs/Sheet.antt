@@ -5,7 +5,7 @@ use Prim.Native.Nat.{ℕ, zero, suc}
 use lib.Dec.{eqb, ltb}
 use lib.ListN.{length, replicate, set}
 use Rattle.region_map.specs.Map.{noRegion, emptyMap}
-use Rattle.region_map.specs.Reply.{Reply, accepted, nodes, place}
+use Rattle.region_map.specs.Reply.{Reply, accepted, nodes, place, plain}
 use Rattle.region_map.specs.Check.{judged}
 use Rattle.region_map.specs.declared.map.Region.{Region}
 use Rattle.region_map.specs.declared.map.RegionMap.{RegionMap}
@@ -46,6 +46,7 @@ abbrev pub checked : RegionMap → Reply → Outcome
 checked m accepted = record { reply = accepted; map = m }
 checked m (nodes k i j) = refusal (nodes k i j)
 checked m (place k p) = refusal (place k p)
+checked m (plain k) = refusal (plain k)
 
 -- 5: 'bytes remain', at the first left over
 abbrev pub finished : List ℕ → ℕ → Read RegionMap → Outcome

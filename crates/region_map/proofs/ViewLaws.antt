@@ -1,0 +1,199 @@
+-- The first entries of an array as the list: the last one grown in its place, and one written behind them.
+use mathlib.Core.Path.{_≡_, refl, sym, ap, _∙_}
+use mathlib.Core.Bool.{Bool, true, false, cond, _&&_}
+use mathlib.Core.List.{List, [], _∷_, _++_, append-assoc}
+use Prim.Native.Nat.{ℕ, zero, suc, _+_, _-_, _≤_, _<_}
+use native.Mathlib.Nat.{not-suc-le-zero, add-suc}
+use native.Mathlib.Numerals.{add-one}
+use native.Mathlib.Decide.{decLt}
+use native.Mathlib.Omega.{arith}
+use lib.Dec.{ltb}
+use lib.ListN.{length, take, drop, replicate, set, getD, length-set, length-take, length-append, take-append-drop}
+use lib.Seq.{drop-set-lt, drop-drop, take-suc, take-suc-set, length-take-le}
+use borrow.Author.Tests.{lt-ltb, le-ltb, ltb-true}
+use Rattle.region_map.specs.declared.map.GuestAddress.{GuestAddress}
+use Rattle.region_map.specs.declared.map.RegionOffset.{RegionOffset}
+use Rattle.region_map.specs.declared.resolve.Resolved.{Resolved}
+use Rattle.region_map.specs.declared.resolve.Resolved.the-variants.{Nothing, At}
+use Rattle.region_map.specs.declared.flat.Backing.{Backing}
+use Rattle.region_map.specs.declared.view.FlatRange.{FlatRange}
+use Rattle.region_map.specs.declared.view.FlatView.{FlatView}
+use Rattle.region_map.specs.declared.flat.Pushed.{Pushed}
+use Rattle.region_map.specs.FlatList.{joins, grown, after, push, extend, flat, lookup}
+use Rattle.region_map.specs.Span.{shift}
+use Rattle.region_map.specs.Flatten.{entries, noRange, Blank, Grew, viewOf, Outcome, refusal, listed, ifSound, flatList, flattened}
+use Rattle.region_map.specs.Reply.{Reply, accepted, nodes, place, plain, passes}
+use Rattle.region_map.specs.Check.{judged, Accepted}
+use Rattle.region_map.specs.declared.map.RegionMap.{RegionMap}
+use Rattle.region_map.proofs.Bools.{never}
+use Rattle.region_map.proofs.PushLaws.{after-on, after-off}
+use Rattle.region_map.proofs.FlatLaws.{flat-grows, sweep-step}
+
+after-snoc : (x : FlatRange) (xs : List FlatRange) (y r : FlatRange) → after x (xs ++ (y ∷ [])) r ≡ x ∷ push (xs ++ (y ∷ [])) r
+unfolding after push
+after-snoc x [] y r = refl
+after-snoc x (z ∷ zs) y r = refl
+
+push-on : (xs : List FlatRange) (y r : FlatRange) → joins y r ≡ true → push (xs ++ (y ∷ [])) r ≡ xs ++ (grown y r ∷ [])
+unfolding push
+push-on [] y r h = after-on y r h
+push-on (x ∷ xs) y r h = after-snoc x xs y r ∙ ap {B = List FlatRange} (λ l. x ∷ l) (push-on xs y r h)
+
+push-off : (xs : List FlatRange) (y r : FlatRange) → joins y r ≡ false → push (xs ++ (y ∷ [])) r ≡ (xs ++ (y ∷ [])) ++ (r ∷ [])
+unfolding push
+push-off [] y r h = after-off y r h
+push-off (x ∷ xs) y r h = after-snoc x xs y r ∙ ap {B = List FlatRange} (λ l. x ∷ l) (push-off xs y r h)
+
+module _ (l : List FlatRange) (r : FlatRange) where
+  take-grown : (n : ℕ) → 0 < n → n ≤ length l → joins (getD l (n - 1) noRange) r ≡ true
+      → take n (set l (n - 1) (grown (getD l (n - 1) noRange) r)) ≡ push (take n l) r
+  take-grown zero p h j = absurd (not-suc-le-zero p)
+  take-grown (suc k) p h j =
+      let e : suc k - 1 ≡ k = omega arith in
+      let j′ : joins (getD l k noRange) r ≡ true = rw e at j in
+      rw (e) (take-suc-set l k (grown (getD l k noRange) r) h ∙ sym (rw (take-suc l k noRange h) (push-on (take k l) (getD l k noRange) r j′)))
+
+  -- with no last entry that it joins, it is put behind
+  push-behind : (n : ℕ) → n ≤ length l → (0 < n → joins (getD l (n - 1) noRange) r ≡ false) → push (take n l) r ≡ take n l ++ (r ∷ [])
+  unfolding push
+  push-behind zero h j = refl
+  push-behind (suc k) h j =
+      let e : suc k - 1 ≡ k = omega arith in
+      let j′ : joins (getD l k noRange) r ≡ false = rw e at (j (omega arith)) in
+      rw (take-suc l k noRange h) (push-off (take k l) (getD l k noRange) r j′)
+
+  take-added : (n : ℕ) → n < length l → (0 < n → joins (getD l (n - 1) noRange) r ≡ false)
+      → take (n + 1) (set l n r) ≡ push (take n l) r
+  take-added n h j = rw add-one (take-suc-set l n r h ∙ sym (push-behind n (omega arith) j))
+
+module _ (v : FlatView) (r : FlatRange) (whole : length (v .ranges) ≡ 256) (some : v .count ≤ 256) where
+  pub grew : 0 < v .count → joins (getD (v .ranges) (v .count - 1) noRange) r ≡ true
+      → Grew (push (entries v) r)
+      (record { full = false; view = record { count = v .count; ranges = set (v .ranges) (v .count - 1) (grown (getD (v .ranges) (v .count - 1) noRange) r) } })
+  grew p j =
+      let n = v .count in
+      let a = set (v .ranges) (v .count - 1) (grown (getD (v .ranges) (v .count - 1) noRange) r) in
+      let e : take (v .count) (set (v .ranges) (v .count - 1) (grown (getD (v .ranges) (v .count - 1) noRange) r)) ≡ push (take (v .count) (v .ranges)) r =
+      take-grown (v .ranges) r (v .count) p (omega arith) j in
+      let s : length (push (take (v .count) (v .ranges)) r) ≡ v .count =
+      ap length (sym e) ∙ length-take-le (v .count) _ (simp length-set (omega arith)) in
+      record { full = sym (le-ltb 256 (length (push (take (v .count) (v .ranges)) r)) (omega arith)); room = some; list = λ _. e }
+
+  module _ (j : 0 < v .count → joins (getD (v .ranges) (v .count - 1) noRange) r ≡ false) where
+    long : length (push (entries v) r) ≡ v .count + 1
+    long = ap length (push-behind (v .ranges) r (v .count) (omega arith) j) ∙ length-append (take (v .count) (v .ranges)) (r ∷ [])
+        ∙ ap (λ (k : ℕ). k + 1) (length-take-le (v .count) (v .ranges) (omega arith))
+
+    pub added : v .count < 256
+        → Grew (push (entries v) r) (record { full = false; view = record { count = v .count + 1; ranges = set (v .ranges) (v .count) r } })
+    added h = record {
+      full = sym (le-ltb 256 (length (push (entries v) r)) (omega (arith, long)));
+      room = omega arith;
+      list = λ _. take-added (v .ranges) r (v .count) (omega arith) j;
+    }
+
+    pub refused : v .count ≡ 256 → Grew (push (entries v) r) (record { full = true; view = v })
+    refused h = record {
+      full = sym (lt-ltb 256 (length (push (entries v) r)) (omega (arith, long)));
+      room = some;
+      list = λ e. let z : _≡_ {A = Bool} true false = e in let y : _≡_ {A = ℕ} 0 1 = cc in absurd (omega arith);
+    }
+
+-- a view that fits is not full
+pub kept : (v : FlatView) → v .count ≤ 256 → (l : List FlatRange) → entries v ≡ l → Grew l (record { full = false; view = v })
+kept v h l e = record {
+  full = sym (le-ltb 256 (length l) (omega (arith, ap length e, length-take (v .count) (v .ranges))));
+  room = h;
+  list = λ _. e;
+}
+
+-- a stretch that answers nothing, and one that is a run
+pub step-hole : (v : FlatView) → v .count ≤ 256 → (backing : ℕ → Backing) (n m : ℕ) (b : Resolved) → b ≡ Nothing
+    → Grew (extend backing (entries v) n m b) (record { full = false; view = v })
+unfolding extend
+step-hole v h backing n m b e = kept v h (extend backing (entries v) n m b) (rw e)
+
+pub step-leaf : (backing : ℕ → Backing) (l : List FlatRange) (n m : GuestAddress) (b : Resolved) (k : ℕ) (o : RegionOffset) (t : Backing) (p : Pushed)
+    → b ≡ At k o → t ≡ backing k
+    → Grew (push l (record { first = n; last = m; region = k; offset = o; kind = t .kind; base = t .base })) p
+    → Grew (extend backing l (n .0) (m .0) b) p
+unfolding extend
+step-leaf backing l n m b k o t p e q g = rw (e, ← q) g
+
+-- a list that is full stays full
+pub still-full : (backing : ℕ → Backing) (f : ℕ → Resolved) (n m : ℕ) (p : Pushed) → n ≤ m → p .full ≡ true → Grew (flat backing f n) p → Grew (flat backing f m) p
+still-full backing f n m p h e g =
+    let a : 256 < length (flat backing f n) = ltb-true 256 _ (sym (g .full) ∙ e) in
+    record {
+      full = e ∙ sym (lt-ltb 256 (length (flat backing f m)) (omega (arith, flat-grows backing f n m h)));
+      room = g .room;
+      list = λ z. let y : _≡_ {A = ℕ} 0 1 = cc in absurd (omega arith);
+    }
+
+-- a turn of the sweep: a stretch of s addresses that answers as one run, put behind the list of those below it
+pub turned : (backing : ℕ → Backing) (f : ℕ → Resolved) (at s : ℕ) (l : List FlatRange) (b : Resolved) (p : Pushed)
+    → l ≡ flat backing f at → b ≡ f at → 0 < s → ((i : ℕ) → i < s → f (at + i) ≡ shift i (f at))
+    → Grew (extend backing l at (at + (s - 1)) b) p → Grew (flat backing f (at + s)) p
+turned backing f at s l b p e q h run g =
+    let m : at + s - 1 ≡ at + (s - 1) = omega arith in
+    rw (sweep-step backing f at s h run, m, ← e, ← q) g
+
+-- the rest of the array stays blank
+pub blank-grown : (v : FlatView) (x : FlatRange) → 0 < v .count → Blank v → Blank (record { count = v .count; ranges = set (v .ranges) (v .count - 1) x })
+blank-grown v x h b = drop-set-lt (v .count) (v .ranges) (v .count - 1) x (omega arith) ∙ b
+
+drop-one : {A : Type 0} (n m : ℕ) (l : List A) (a : A) → drop n l ≡ replicate m a → drop (suc n) l ≡ replicate (m - 1) a
+drop-one n m l a e = sym (ap (λ (k : ℕ). drop k l) (add-one n)) ∙ sym (drop-drop 1 n l) ∙ ap (drop 1) e ∙ go m
+  where
+    go : (m : ℕ) → drop 1 (replicate m a) ≡ replicate (m - 1) a
+    go zero = refl
+    go (suc m) = let z : suc m - 1 ≡ m = omega arith in rw z
+
+pub blank-added : (v : FlatView) (x : FlatRange) → Blank v → Blank (record { count = v .count + 1; ranges = set (v .ranges) (v .count) x })
+blank-added v x b =
+    let z : 256 - suc (v .count) ≡ 256 - v .count - 1 = omega arith in
+    rw (add-one (v .count)) (drop-set-lt (suc (v .count)) (v .ranges) (v .count) x (omega arith) ∙ rw z (drop-one (v .count) (256 - v .count) (v .ranges) noRange b))
+
+-- the empty list
+pub start : (backing : ℕ → Backing) (f : ℕ → Resolved) (v : FlatView) → v ≡ viewOf [] → (v .count ≤ 256) × (entries v ≡ flat backing f 0) × Blank v
+unfolding viewOf flat
+start backing f v e = rw e (omega arith, refl, refl)
+
+-- a view that is blank behind its entries is the view of its list
+pub whole-view : (v : FlatView) (l : List FlatRange) → v .count ≤ length (v .ranges) → entries v ≡ l → Blank v → v ≡ viewOf l
+unfolding viewOf
+whole-view v l h e b =
+    let n : v .count ≡ length l = sym (length-take-le (v .count) (v .ranges) h) ∙ ap length e in
+    let m : v .ranges ≡ l ++ replicate (256 - length l) noRange =
+    sym (take-append-drop (v .count) (v .ranges)) ∙ ap {B = List FlatRange} (λ x. x ++ drop (v .count) (v .ranges)) e
+    ∙ ap {B = List FlatRange} (λ x. l ++ x) (b ∙ ap {B = List FlatRange} (λ k. replicate (256 - k) noRange) n) in
+    λ i. record { count = n i; ranges = m i }
+
+-- the complete answer, from what the sweep says
+pub made-full : (l : List FlatRange) (q : Pushed) (v : FlatView) → Grew l q → q .full ≡ true → v ≡ viewOf [] → record { reply = plain 12; view = v } ≡ listed l
+unfolding listed
+made-full l q v g e h = let t : ltb 256 (length l) ≡ true = sym (g .full) ∙ e in rw (t, h)
+
+pub made-list : (l : List FlatRange) (q : Pushed) → Grew l q → q .full ≡ false → length (q .view .ranges) ≡ 256 → Blank (q .view)
+    → record { reply = accepted; view = q .view } ≡ listed l
+unfolding listed
+made-list l q g e w b =
+    let t : ltb 256 (length l) ≡ false = sym (g .full) ∙ e in
+    let p : q .view ≡ viewOf l = whole-view (q .view) l (omega (arith, g .room)) (g .list e) b in
+    rw (t, p)
+
+-- and of the map's check
+pub flat-made : (m : RegionMap) (length : ℕ) (o : Outcome) → Accepted m length → o ≡ listed (flatList m) → o ≡ flattened m length
+unfolding flattened Accepted
+flat-made m length o ok e = rw (ok, e)
+
+pub flat-refused : (m : RegionMap) (length : ℕ) (r : Reply) (v : FlatView) → r ≡ judged m length → passes r ≡ false → v ≡ viewOf []
+    → record { reply = r; view = v } ≡ flattened m length
+unfolding flattened
+flat-refused m length r v e p h = rw h (go r p ∙ ap (λ (j : Reply). ifSound j (listed (flatList m))) e)
+  where
+    go : (r : Reply) → passes r ≡ false → refusal r ≡ ifSound r (listed (flatList m))
+    go accepted q = absurd (never q)
+    go (nodes k i j) q = refl
+    go (place k p) q = refl
+    go (plain k) q = refl
