@@ -1,6 +1,7 @@
 pub mod Accepted
 pub mod Answers
 pub mod Bools
+pub mod Demand3
 mod First
 pub mod FlatLaws
 mod Found

@@ -19,13 +19,13 @@ offset-in (At k o) = o .0
 apart : {k o : ℕ} → At k (record { 0 = o }) ≡ Nothing → ⊥
 apart h = let z : _≡_ {A = ℕ} 0 1 = cc in omega arith
 
-sound : {backing : ℕ → Backing} (x : FlatRange) (xs : List FlatRange) → Chain backing x xs → Entry backing x
+pub sound : {backing : ℕ → Backing} (x : FlatRange) (xs : List FlatRange) → Chain backing x xs → Entry backing x
 sound x [] c = c
 sound x (y ∷ ys) c = c .0
 
 module _ (backing : ℕ → Backing) where
   -- below the first entry a list gives nothing
-  low : (x : FlatRange) (xs : List FlatRange) (a : ℕ) → Chain backing x xs → a < x .first .0 → lookup (x ∷ xs) a ≡ Nothing
+  pub low : (x : FlatRange) (xs : List FlatRange) (a : ℕ) → Chain backing x xs → a < x .first .0 → lookup (x ∷ xs) a ≡ Nothing
   unfolding lookup
   low x [] a c h = rw (inside-before x a h)
   low x (y ∷ ys) a c h = rw (inside-before x a h) (low y ys a (c .2) (omega (arith, c .0 .order, c .1 .above)))
@@ -36,11 +36,11 @@ module _ (backing : ℕ → Backing) where
   tail-low x [] a c h = refl
   tail-low x (y ∷ ys) a c h = low y ys a (c .2) (omega (arith, c .1 .above))
 
-  here : (x : FlatRange) (xs : List FlatRange) (a : ℕ) → x .first .0 ≤ a → a ≤ x .last .0 → lookup (x ∷ xs) a ≡ answerOf x a
+  pub here : (x : FlatRange) (xs : List FlatRange) (a : ℕ) → x .first .0 ≤ a → a ≤ x .last .0 → lookup (x ∷ xs) a ≡ answerOf x a
   unfolding lookup
   here x xs a h k = rw (inside-on x a h k)
 
-  later : (x : FlatRange) (xs : List FlatRange) (a : ℕ) → x .last .0 < a → lookup (x ∷ xs) a ≡ lookup xs a
+  pub later : (x : FlatRange) (xs : List FlatRange) (a : ℕ) → x .last .0 < a → lookup (x ∷ xs) a ≡ lookup xs a
   unfolding lookup
   later x xs a h = rw (inside-beyond x a h)
 

@@ -9,3 +9,4 @@ pub mod Span
 pub mod Resolve
 pub mod FlatList
 pub mod Flatten
+pub mod ViewRules
