@@ -53,7 +53,8 @@ list-first-half m =
     record {
       gives = list-gives m;
       longest = list-longest m;
-      only = λ other c g. unique (backingOf m) other (flatList m) c (list-longest m) (λ a. g a ∙ sym (list-gives m a)) }
+      only = λ other c g. unique (backingOf m) other (flatList m) c (list-longest m) (λ a. g a ∙ sym (list-gives m a));
+    }
 
 entries-view : (l : List FlatRange) → entries (viewOf l) ≡ l
 unfolding viewOf
@@ -115,7 +116,7 @@ module _ (m : RegionMap) (memory : ℕ) (ok : Accepted m memory) where
       let e = entry-at (backingOf m) (flatList m) k (list-longest m) h in
       let order = e .order in
       let led : walkRoot m (r .last .0) ≡ answerOf r (r .last .0) =
-          sym (list-gives m (r .last .0)) ∙ given-at (backingOf m) (flatList m) k (r .last .0) (list-longest m) h order (omega arith) in
+      sym (list-gives m (r .last .0)) ∙ given-at (backingOf m) (flatList m) k (r .last .0) (list-longest m) h order (omega arith) in
       let leaf : LeafOf m (r .region) (lastOffset r) = root-leaf m memory ok (r .last .0) (r .region) (record { 0 = lastOffset r }) led in
       let s = accepted-sound m memory ok in
       let below = leaf .below in
@@ -136,7 +137,8 @@ module _ (m : RegionMap) (memory : ℕ) (ok : Accepted m memory) where
             let base : r .base ≡ region m (r .region) .«memory_start» = e .base ∙ rw (ne-eqb (region m (r .region) .kind) mmio other) in
             let end = s .ends (r .region) below (held (region m (r .region) .kind) (leaf .kinds) other) in
             omega arith;
-        inside = within }
+        inside = within;
+      }
     where
       in-root : (a n : ℕ) (o : RegionOffset) → walkRoot m a ≡ At n o → a < rootSize m
       in-root a n o e = go (decLt a (rootSize m))
@@ -172,4 +174,5 @@ module _ (m : RegionMap) (memory : ℕ) (ok : Accepted m memory) where
         bases = λ j k p h e.
             let same = sym (ap (λ (r : FlatRange). r .region) (range-eq j p)) ∙ e ∙ ap (λ (r : FlatRange). r .region) (range-eq k h) in
             rw (range-eq j p, range-eq k h)
-            (entry-at (backingOf m) (flatList m) j (list-longest m) p .base ∙ ap (λ (n : ℕ). backingOf m n .base) same ∙ sym (entry-at (backingOf m) (flatList m) k (list-longest m) h .base)) }
+            (entry-at (backingOf m) (flatList m) j (list-longest m) p .base ∙ ap (λ (n : ℕ). backingOf m n .base) same ∙ sym (entry-at (backingOf m) (flatList m) k (list-longest m) h .base));
+      }

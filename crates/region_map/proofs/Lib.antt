@@ -11,5 +11,5 @@ mod RangeTests
 mod ResolveLaws
 mod SweepLaws
 pub mod UniqueLaws
-mod ViewLaws
+pub mod ViewLaws
 pub mod WalkLaws

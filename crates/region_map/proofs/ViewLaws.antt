@@ -142,7 +142,7 @@ turned backing f at s l b p e q h run g =
 pub blank-grown : (v : FlatView) (x : FlatRange) → 0 < v .count → Blank v → Blank (record { count = v .count; ranges = set (v .ranges) (v .count - 1) x })
 blank-grown v x h b = drop-set-lt (v .count) (v .ranges) (v .count - 1) x (omega arith) ∙ b
 
-drop-one : {A : Type 0} (n m : ℕ) (l : List A) (a : A) → drop n l ≡ replicate m a → drop (suc n) l ≡ replicate (m - 1) a
+pub drop-one : {A : Type 0} (n m : ℕ) (l : List A) (a : A) → drop n l ≡ replicate m a → drop (suc n) l ≡ replicate (m - 1) a
 drop-one n m l a e = sym (ap (λ (k : ℕ). drop k l) (add-one n)) ∙ sym (drop-drop 1 n l) ∙ ap (drop 1) e ∙ go m
   where
     go : (m : ℕ) → drop 1 (replicate m a) ≡ replicate (m - 1) a

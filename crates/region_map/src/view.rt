@@ -1,7 +1,9 @@
 // The flat view of a map: the guest addresses as ranges, each of one region.
 ghost use mathlib.Core.Path.{_≡_};
 ghost use mathlib.Core.List.{[]};
-ghost use Rattle.region_map.specs.Flatten.{viewOf, flattened, outcomeOf};
+ghost use Rattle.region_map.specs.Flatten.{viewOf, flattened, flatReply, outcomeOf};
+ghost use Rattle.region_map.specs.Reply.{numberOf};
+use crate::check;
 use crate::check::MapAnswer;
 use crate::check::accepts;
 use crate::check::check_map;
@@ -79,5 +81,15 @@ pub fn flatten(map: RegionMap, memory_length: u64) -> Flattened
     Flattened {
         answer: FlatAnswer::Checked(answer),
         view: empty_view(),
+    }
+}
+
+// Document 01's number of the refusal, and 0 for a view that was made.
+pub fn number_of(answer: FlatAnswer) -> u64
+    ensures { λ r. ⌜ r ≡ numberOf (flatReply answer) ⌝ }
+{
+    match answer {
+        FlatAnswer::TooMany => 12,
+        FlatAnswer::Checked(map) => check::number_of(map),
     }
 }

@@ -1,0 +1,3 @@
+// The lines that the program `flatten` prints.
+mod line;
+pub mod listing;
