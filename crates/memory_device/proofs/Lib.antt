@@ -1,0 +1,2 @@
+pub mod ByteLaws
+mod RuleLaws

@@ -1,0 +1,3 @@
+pub mod device;
+mod bytes;
+mod rules;
