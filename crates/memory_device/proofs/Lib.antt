@@ -1,2 +1,3 @@
 pub mod ByteLaws
 mod RuleLaws
+mod SetUpLaws

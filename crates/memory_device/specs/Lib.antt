@@ -1,3 +1,4 @@
 pub mod Table
 pub mod Bytes
 pub mod Device
+pub mod SetUp

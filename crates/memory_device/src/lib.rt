@@ -1,3 +1,4 @@
 pub mod device;
+pub mod setup;
 mod bytes;
 mod rules;

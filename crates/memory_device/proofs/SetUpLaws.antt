@@ -1,0 +1,44 @@
+-- Laws of setting the device up. Assumes nothing.
+use mathlib.Core.Path.{_≡_, refl, sym, ap, _∙_}
+use mathlib.Core.Bool.{Bool, true, false, cond}
+use Prim.Native.Nat.{ℕ, suc, _+_}
+use native.Mathlib.Numerals.{add-one}
+use lib.Dec.{eqb}
+use borrow.Author.Tests.{eq-eqb, ne-eqb}
+use Rattle.region_map.specs.Map.{managed, region}
+use Rattle.region_map.specs.Reply.{Reply, accepted, nodes, place, plain, passes}
+use Rattle.region_map.specs.Check.{judged, Accepted}
+use Rattle.region_map.specs.declared.map.RegionMap.{RegionMap}
+use Rattle.region_map.proofs.Bools.{never}
+use Rattle.memory_device.specs.Device.{setupOk}
+use Rattle.memory_device.specs.SetUp.{managedIn, regionSize, deviceOf, Outcome, refusal, valued, ifAccepted, setUp}
+use Rattle.memory_device.specs.declared.setup.DeviceValues.{DeviceValues}
+
+pub managed-here : (m : RegionMap) (n : ℕ) → region m n .kind ≡ managed → managedIn m (n + 1) ≡ region m n .size
+unfolding managedIn
+managed-here m n h = rw (add-one, eq-eqb (region m n .kind) managed h)
+
+pub managed-not : (m : RegionMap) (n : ℕ) → (region m n .kind ≡ managed → ⊥) → managedIn m (n + 1) ≡ managedIn m n
+unfolding managedIn
+managed-not m n h = rw (add-one, ne-eqb (region m n .kind) managed h)
+
+module _ (m : RegionMap) (length : ℕ) (v : DeviceValues) where
+  pub set-up-done : Accepted m length → setupOk (v .«block_size») (v .addr) (regionSize m) (v .«usable_size») (v .«requested_size») ≡ true
+      → record { reply = accepted; device = deviceOf v (regionSize m) } ≡ setUp m length v
+  unfolding setUp Accepted
+  set-up-done ok h = rw (ok, h)
+
+  pub set-up-values : Accepted m length → setupOk (v .«block_size») (v .addr) (regionSize m) (v .«usable_size») (v .«requested_size») ≡ false
+      → refusal (plain 13) ≡ setUp m length v
+  unfolding setUp Accepted
+  set-up-values ok h = rw (ok, h)
+
+  pub set-up-refused : (r : Reply) → r ≡ judged m length → passes r ≡ false → refusal r ≡ setUp m length v
+  unfolding setUp
+  set-up-refused r e p = go r p ∙ ap (λ (j : Reply). ifAccepted j (valued v (regionSize m))) e
+    where
+      go : (r : Reply) → passes r ≡ false → refusal r ≡ ifAccepted r (valued v (regionSize m))
+      go accepted q = absurd (never q)
+      go (nodes k i j) q = refl
+      go (place k p) q = refl
+      go (plain k) q = refl

@@ -1,0 +1,66 @@
+-- Setting the device up from a given map: 3, 4, 6 to 11, then 13. Assumes nothing: these are definitions.
+use mathlib.Core.Bool.{Bool, true, false, cond}
+use Prim.Native.Nat.{ℕ, zero, suc}
+use lib.Dec.{eqb}
+use Rattle.region_map.specs.Map.{managed, region}
+use Rattle.region_map.specs.Reply.{Reply, accepted, nodes, place, plain}
+use Rattle.region_map.specs.Check.{reply, judged}
+use Rattle.region_map.specs.declared.map.RegionMap.{RegionMap}
+use Rattle.memory_device.specs.Device.{noBlocks, setupOk}
+use Rattle.memory_device.specs.declared.device.MemoryDevice.{MemoryDevice}
+use Rattle.memory_device.specs.declared.setup.DeviceValues.{DeviceValues}
+use Rattle.memory_device.specs.declared.setup.SetUpAnswer.{SetUpAnswer}
+use Rattle.memory_device.specs.declared.setup.SetUpAnswer.the-variants.{Checked, Values}
+use Rattle.memory_device.specs.declared.setup.SetUp.{SetUp}
+
+-- the size of the managed region among the first n, and 0 where there is none
+unfoldable pub managedIn : RegionMap → ℕ → ℕ
+managedIn m zero = 0
+managedIn m (suc n) = cond (eqb (region m n .kind) managed) (region m n .size) (managedIn m n)
+
+-- 'region = managed node's size'
+abbrev pub regionSize : RegionMap → ℕ
+regionSize m = managedIn m (m .count)
+
+-- the device record of these values, with nothing plugged or pinned
+abbrev pub deviceOf : DeviceValues → ℕ → MemoryDevice
+deviceOf v region =
+    record {
+      «block_size» = v .«block_size»; addr = v .addr; «region_size» = region; «usable_size» = v .«usable_size»;
+      «requested_size» = v .«requested_size»; plugged = noBlocks; pinned = noBlocks }
+
+-- the record of a refusal
+abbrev pub noDevice : MemoryDevice
+noDevice =
+    record { «block_size» = 0; addr = 0; «region_size» = 0; «usable_size» = 0; «requested_size» = 0; plugged = noBlocks; pinned = noBlocks }
+
+pub record Outcome : Type 0 where
+  pub reply : Reply
+  pub device : MemoryDevice
+
+abbrev pub refusal : Reply → Outcome
+refusal r = record { reply = r; device = noDevice }
+
+-- 13: 'device values break the rules below, or no managed node': without one the region is 0, which breaks them
+abbrev pub valued : DeviceValues → ℕ → Outcome
+valued v region =
+    cond (setupOk (v .«block_size») (v .addr) region (v .«usable_size») (v .«requested_size»))
+    (record { reply = accepted; device = deviceOf v region }) (refusal (plain 13))
+
+-- the map is judged first
+abbrev pub ifAccepted : Reply → Outcome → Outcome
+ifAccepted accepted o = o
+ifAccepted (nodes k i j) o = refusal (nodes k i j)
+ifAccepted (place k p) o = refusal (place k p)
+ifAccepted (plain k) o = refusal (plain k)
+
+unfoldable pub setUp : RegionMap → ℕ → DeviceValues → Outcome
+setUp m length v = ifAccepted (judged m length) (valued v (regionSize m))
+
+-- document 01's number for each answer
+abbrev pub setUpReply : SetUpAnswer → Reply
+setUpReply (Checked a) = reply a
+setUpReply Values = plain 13
+
+abbrev pub outcomeOf : SetUp → Outcome
+outcomeOf s = record { reply = setUpReply (s .answer); device = s .device }

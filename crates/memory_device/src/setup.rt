@@ -1,0 +1,100 @@
+// Setting the device up from a given map.
+ghost use mathlib.Core.Path.{_≡_};
+ghost use Prim.Native.Nat.{_≤_};
+ghost use Rattle.memory_device.specs.SetUp.{managedIn, regionSize, noDevice, setUp, outcomeOf};
+
+use crate::device::MemoryDevice;
+use crate::rules::setup_ok;
+use region_map::check::accepts;
+use region_map::check::check_map;
+use region_map::check::MapAnswer;
+use region_map::map::RegionMap;
+use region_map::map::MANAGED;
+
+// What the host chooses. The region's size is the managed region's.
+pub struct DeviceValues {
+    pub block_size: u64,
+    pub addr: u64,
+    pub usable_size: u64,
+    pub requested_size: u64,
+}
+
+// What the map's check says, or that the values break SETUP's rules (13).
+pub enum SetUpAnswer {
+    Checked(MapAnswer),
+    Values,
+}
+
+// The answer, and the fresh device where it was set up: else a record of zeros.
+pub struct SetUp {
+    pub answer: SetUpAnswer,
+    pub device: MemoryDevice,
+}
+
+// The size of the managed region, or 0.
+fn region_size(map: RegionMap) -> u64
+    requires { ⌜ map .count ≤ 32 ⌝ }
+    ensures { λ r. ⌜ r ≡ regionSize map ⌝ }
+{
+    let count = map.count;
+    let mut size: u64 = 0;
+    for n in 0..count {
+        let region = map.regions[n];
+        if region.kind == MANAGED {
+            size = region.size;
+        }
+    }
+    size
+}
+
+fn no_device() -> MemoryDevice
+    ensures { λ r. ⌜ r ≡ noDevice ⌝ }
+{
+    MemoryDevice {
+        block_size: 0,
+        addr: 0,
+        region_size: 0,
+        usable_size: 0,
+        requested_size: 0,
+        plugged: [0u64; 16],
+        pinned: [0u64; 16],
+    }
+}
+
+// The fresh device of a map that is judged first.
+pub fn set_up(map: RegionMap, memory_length: u64, values: DeviceValues) -> SetUp
+    ensures { λ r. ⌜ outcomeOf r ≡ setUp map «memory_length» values ⌝ }
+{
+    let answer = check_map(map, memory_length);
+    if accepts(answer) {
+        let region = region_size(map);
+        if setup_ok(
+            values.block_size,
+            values.addr,
+            region,
+            values.usable_size,
+            values.requested_size,
+        ) {
+            return SetUp {
+                answer: SetUpAnswer::Checked(answer),
+                device: MemoryDevice {
+                    block_size: values.block_size,
+                    addr: values.addr,
+                    region_size: region,
+                    usable_size: values.usable_size,
+                    requested_size: values.requested_size,
+                    plugged: [0u64; 16],
+                    pinned: [0u64; 16],
+                },
+            };
+        }
+        return SetUp {
+            answer: SetUpAnswer::Values,
+            device: no_device(),
+        };
+    }
+    SetUp {
+        answer: SetUpAnswer::Checked(answer),
+        device: no_device(),
+    }
+}
