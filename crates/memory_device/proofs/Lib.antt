@@ -1,3 +1,4 @@
 pub mod ByteLaws
 mod RuleLaws
 mod SetUpLaws
+pub mod TableLaws

@@ -56,8 +56,14 @@ noBlocks = replicate 16 0
 abbrev pub withTables : MemoryDevice → List ℕ → List ℕ → MemoryDevice
 withTables d plugged pinned =
     record {
-      «block_size» = d .«block_size»; addr = d .addr; «region_size» = d .«region_size»; «usable_size» = d .«usable_size»;
-      «requested_size» = d .«requested_size»; plugged = plugged; pinned = pinned }
+      «block_size» = d .«block_size»;
+      addr = d .addr;
+      «region_size» = d .«region_size»;
+      «usable_size» = d .«usable_size»;
+      «requested_size» = d .«requested_size»;
+      plugged = plugged;
+      pinned = pinned;
+    }
 
 abbrev pub fresh : MemoryDevice → MemoryDevice
 fresh d = withTables d noBlocks noBlocks

@@ -26,8 +26,14 @@ regionSize m = managedIn m (m .count)
 abbrev pub deviceOf : DeviceValues → ℕ → MemoryDevice
 deviceOf v region =
     record {
-      «block_size» = v .«block_size»; addr = v .addr; «region_size» = region; «usable_size» = v .«usable_size»;
-      «requested_size» = v .«requested_size»; plugged = noBlocks; pinned = noBlocks }
+      «block_size» = v .«block_size»;
+      addr = v .addr;
+      «region_size» = region;
+      «usable_size» = v .«usable_size»;
+      «requested_size» = v .«requested_size»;
+      plugged = noBlocks;
+      pinned = noBlocks;
+    }
 
 -- the record of a refusal
 abbrev pub noDevice : MemoryDevice

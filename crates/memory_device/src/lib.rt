@@ -1,4 +1,5 @@
-pub mod device;
-pub mod setup;
 mod bytes;
+pub mod device;
 mod rules;
+pub mod setup;
+mod table;

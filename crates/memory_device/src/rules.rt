@@ -3,7 +3,9 @@ ghost use mathlib.Core.Path.{_≡_};
 ghost use Prim.Native.Nat.{_+_, _*_, _≤_, _<_};
 ghost use lib.Dec.{leb};
 ghost use Rattle.memory_device.specs.Device.{blockOk, regionOk, addrOk, sizesOk, setupOk, tablesOk, deviceOk};
-
+use crate::device::MemoryDevice;
+use crate::table::only_below;
+use crate::table::part_of;
 
 // The largest end of a region, 2^48.
 const LIMIT: u64 = 281474976710656;
@@ -50,10 +52,7 @@ fn sizes_ok(block: u64, region: u64, usable: u64, requested: u64) -> bool
     requires { ⌜ 0 < block ⌝ }
     ensures { λ r. ⌜ r ≡ sizesOk block region usable requested ⌝ }
 {
-    (requested <= usable)
-        & (usable <= region)
-        & (usable % block == 0)
-        & (requested % block == 0)
+    (requested <= usable) & (usable <= region) & (usable % block == 0) & (requested % block == 0)
 }
 
 // SETUP's rules.
@@ -67,3 +66,30 @@ pub fn setup_ok(block: u64, addr: u64, region: u64, usable: u64, requested: u64)
     false
 }
 
+// 27's rules over the two tables: what is plugged lies in the usable part, and what is pinned is
+// plugged. That both lie in the region follows.
+fn tables_ok(device: MemoryDevice) -> bool
+    requires { ⌜ (0 < device .«block_size») × (device .«usable_size» ≤ device .«region_size») × (device .«region_size» ≤ 1024 * device .«block_size») ⌝ }
+    ensures { λ r. ⌜ r ≡ tablesOk device ⌝ }
+{
+    let plugged = device.plugged;
+    let pinned = device.pinned;
+    let blocks = (device.usable_size / device.block_size) as usize;
+    only_below(plugged, blocks) & part_of(pinned, plugged)
+}
+
+// Does a device record keep its rules?
+pub fn device_ok(device: MemoryDevice) -> bool
+    ensures { λ r. ⌜ r ≡ deviceOk device ⌝ }
+{
+    if setup_ok(
+        device.block_size,
+        device.addr,
+        device.region_size,
+        device.usable_size,
+        device.requested_size,
+    ) {
+        return tables_ok(device);
+    }
+    false
+}

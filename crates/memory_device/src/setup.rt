@@ -2,14 +2,13 @@
 ghost use mathlib.Core.Path.{_≡_};
 ghost use Prim.Native.Nat.{_≤_};
 ghost use Rattle.memory_device.specs.SetUp.{managedIn, regionSize, noDevice, setUp, outcomeOf};
-
 use crate::device::MemoryDevice;
 use crate::rules::setup_ok;
+use region_map::check::MapAnswer;
 use region_map::check::accepts;
 use region_map::check::check_map;
-use region_map::check::MapAnswer;
-use region_map::map::RegionMap;
 use region_map::map::MANAGED;
+use region_map::map::RegionMap;
 
 // What the host chooses. The region's size is the managed region's.
 pub struct DeviceValues {
