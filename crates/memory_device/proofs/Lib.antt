@@ -1,4 +1,5 @@
 pub mod ByteLaws
+mod HostLaws
 mod RuleLaws
 mod SetUpLaws
 pub mod TableLaws

@@ -119,11 +119,11 @@ tables-two p q u r h = go (onlyBelow p u) refl (partOf q p) refl
     go false e y f = sym (ap (λ (t : Bool). t && y) (and-off (onlyBelow p r && onlyBelow q r)))
 
 -- SETUP's rules as facts
-and-fst : (a b : Bool) → (a && b) ≡ true → a ≡ true
+pub and-fst : (a b : Bool) → (a && b) ≡ true → a ≡ true
 and-fst true b e = refl
 and-fst false b e = e
 
-and-snd : (a b : Bool) → (a && b) ≡ true → b ≡ true
+pub and-snd : (a b : Bool) → (a && b) ≡ true → b ≡ true
 and-snd true b e = e
 and-snd false b e = absurd (never (sym e))
 

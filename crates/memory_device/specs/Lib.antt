@@ -2,3 +2,4 @@ pub mod Table
 pub mod Bytes
 pub mod Device
 pub mod SetUp
+pub mod Host

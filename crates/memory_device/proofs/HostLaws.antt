@@ -1,0 +1,33 @@
+-- Laws of the host's calls. Assumes nothing.
+use mathlib.Core.Path.{_≡_, refl, sym, ap, _∙_}
+use mathlib.Core.Bool.{Bool, true, false, cond, _&&_, _||_, not}
+use mathlib.Core.List.{List}
+use Prim.Native.Nat.{ℕ, _/_, _%_, _^_, _≤_, _<_}
+use native.Mathlib.Nat.{zero-div}
+use native.Mathlib.Omega.{arith}
+use lib.Dec.{ltb}
+use lib.ListN.{length, getD, List·getD-eq-default}
+use Rattle.memory_device.specs.Table.{bitAt}
+
+-- the test of a pin, and its refusal
+pub pin-test : (x y z : Bool) → (x && (y && not z)) ≡ not (not x || not y || z)
+pin-test true true true = refl
+pin-test true true false = refl
+pin-test true false true = refl
+pin-test true false false = refl
+pin-test false true true = refl
+pin-test false true false = refl
+pin-test false false true = refl
+pin-test false false false = refl
+
+pub not-on : (x : Bool) → not x ≡ true → x ≡ false
+not-on true e = sym e
+not-on false e = refl
+
+pub not-off : (x : Bool) → not x ≡ false → x ≡ true
+not-off true e = refl
+not-off false e = sym e
+
+-- no block from 1,024 on is set
+pub past-bit : (t : List ℕ) (b : ℕ) → length t ≡ 16 → 1024 ≤ b → bitAt t b ≡ false
+past-bit t b w h = rw (List·getD-eq-default t 0 {n = b / 64} (omega arith), zero-div (2 ^ (b % 64)))
