@@ -1,3 +1,4 @@
+mod AnswerLaws
 pub mod ByteLaws
 mod HostLaws
 mod RuleLaws

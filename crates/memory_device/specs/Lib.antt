@@ -3,3 +3,4 @@ pub mod Bytes
 pub mod Device
 pub mod SetUp
 pub mod Host
+pub mod Request

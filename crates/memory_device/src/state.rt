@@ -74,7 +74,7 @@ pub fn can_pin(device: MemoryDevice, b: usize) -> bool
 // Block size times the blocks plugged.
 pub fn plugged_size(device: MemoryDevice) -> u64
     requires { ⌜ device .«block_size» ≤ 1073741824 ⌝ }
-    ensures { λ r. ⌜ r ≡ pluggedSize device ⌝ }
+    ensures { λ r. ⌜ (r ≡ pluggedSize device) × (r ≤ 1099511627776) ⌝ }
 {
     let plugged = device.plugged;
     device.block_size * total(plugged)

@@ -26,7 +26,7 @@ configuration-bytes-requires c κs = search needs
 -- src/host.rt:129:13
 returns : tie.Need-returns
 unfolding configured
-returns c = rw (sym (c .before .before .before .device-ok .ensures) ∙ c .before .before .if1 .taken, c .configuration-bytes .ensures, c .before .plugged-size .ensures)
+returns c = rw (sym (c .before .before .before .device-ok .ensures) ∙ c .before .before .if1 .taken, c .configuration-bytes .ensures, c .before .plugged-size .ensures .0)
 
 -- src/host.rt:116:5
 returns-2 : tie.Need-returns-2
