@@ -68,7 +68,7 @@ module _ (d : MemoryDevice) (r : Request) (v : Valid d) (h : inRange d r ≡ tru
       (and-snd (eqb (r .addr .0 % d .«block_size») 0 && leb 1 (r .blocks)) (leb (d .addr) (r .addr .0))
       (and-fst (eqb (r .addr .0 % d .«block_size») 0 && leb 1 (r .blocks) && leb (d .addr) (r .addr .0)) (leb (r .addr .0 - d .addr + r .blocks * d .«block_size») (d .«usable_size»)) h))
 
-  in-end : r .addr .0 - d .addr + r .blocks * d .«block_size» ≤ d .«usable_size»
+  pub in-end : r .addr .0 - d .addr + r .blocks * d .«block_size» ≤ d .«usable_size»
   in-end =
       leb-true (r .addr .0 - d .addr + r .blocks * d .«block_size») (d .«usable_size»)
       (and-snd (eqb (r .addr .0 % d .«block_size») 0 && leb 1 (r .blocks) && leb (d .addr) (r .addr .0)) (leb (r .addr .0 - d .addr + r .blocks * d .«block_size») (d .«usable_size»)) h)
