@@ -2,6 +2,8 @@ mod AnswerLaws
 pub mod ByteLaws
 mod HostLaws
 pub mod Kept
+pub mod Plugged
 mod RuleLaws
 mod SetUpLaws
 pub mod TableLaws
+pub mod Worked

@@ -4,3 +4,4 @@ pub mod Device
 pub mod SetUp
 pub mod Host
 pub mod Request
+pub mod Calls

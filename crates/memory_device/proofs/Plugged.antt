@@ -1,0 +1,95 @@
+-- From the fresh state on, over any sequence of calls, the plugged blocks are those acknowledged in less those acknowledged out, and the record stays valid. Assumes nothing.
+use mathlib.Core.Path.{_≡_, refl, sym, ap, _∙_}
+use mathlib.Core.Bool.{Bool, true, false, cond, _&&_, not}
+use mathlib.Core.List.{List, [], _∷_}
+use Prim.Native.Nat.{ℕ, _<_}
+use lib.Dec.{eqb}
+use lib.ListN.{getD}
+use Rattle.memory_device.specs.Table.{bitAt, within, tableOf}
+use Rattle.memory_device.specs.Device.{noBlocks, withTables, fresh, deviceOk}
+use Rattle.memory_device.specs.Host.{Outcome, refusal, done, sizeFault, withRequested, resized, pinFault, withBlock, pinned, unpinned, wasReset}
+use Rattle.memory_device.specs.Request.{requestOf, blockOf, answered, isAck, withRun, acknowledged, changedBy, carried}
+use Rattle.memory_device.specs.Calls.{Call, request, resize, pin, unpin, reset, called, afterAck, ledgerAfter, after, ledger}
+use Rattle.memory_device.specs.declared.device.MemoryDevice.{MemoryDevice}
+use Rattle.memory_device.specs.declared.request.Request.{Request}
+use Rattle.memory_device.proofs.TableLaws.{table-bit, zero-bit}
+use Rattle.memory_device.proofs.Kept.{reset-kept, pin-kept, unpin-kept, resize-kept, carry-kept}
+
+-- the table after an acknowledged request, block by block
+acknowledged-bit : (d : MemoryDevice) (r : Request) (had : ℕ → Bool) (b : ℕ) → b < 1024 → bitAt (d .plugged) b ≡ had b → bitAt (acknowledged d r) b ≡ afterAck d r had b
+acknowledged-bit d r had b l e = go (eqb (r .kind) 0) (eqb (r .kind) 1) (eqb (r .kind) 2)
+  where
+    run : Bool → ℕ → Bool
+    run on c = cond (within (blockOf d (r .addr .0)) (r .blocks) c) on (bitAt (d .plugged) c)
+
+    set-bit : (on : Bool) → bitAt (withRun d r on) b ≡ cond (within (blockOf d (r .addr .0)) (r .blocks) b) on (had b)
+    set-bit on = table-bit (run on) b l ∙ ap (λ (x : Bool). cond (within (blockOf d (r .addr .0)) (r .blocks) b) on x) e
+
+    go : (x y z : Bool)
+        → bitAt (cond x (withRun d r true) (cond y (withRun d r false) (cond z noBlocks (d .plugged)))) b
+        ≡ cond x (cond (within (blockOf d (r .addr .0)) (r .blocks) b) true (had b)) (cond y (cond (within (blockOf d (r .addr .0)) (r .blocks) b) false (had b)) (cond z false (had b)))
+    go true y z = set-bit true
+    go false true z = set-bit false
+    go false false true = zero-bit b
+    go false false false = e
+
+-- what a refusal or another answer leaves
+module _ (d : MemoryDevice) (had : ℕ → Bool) (b : ℕ) (l : b < 1024) (e : bitAt (d .plugged) b ≡ had b) where
+  chosen : (x : Bool) (a c : Outcome) → bitAt (a .device .plugged) b ≡ had b → bitAt (c .device .plugged) b ≡ had b → bitAt (cond x a c .device .plugged) b ≡ had b
+  chosen true a c f g = f
+  chosen false a c f g = g
+
+  changed : (r : Request) (x : Bool) → bitAt (cond x (withTables d (acknowledged d r) (d .pinned)) d .plugged) b ≡ cond x (afterAck d r had b) (had b)
+  changed r true = acknowledged-bit d r had b l e
+  changed r false = e
+
+  step-request : (s : List ℕ) → bitAt (carried d s .device .plugged) b ≡ ledgerAfter d had (request s) b
+  unfolding carried changedBy
+  step-request s = go (deviceOk d) refl
+    where
+      go : (x : Bool) → deviceOk d ≡ x → bitAt (carried d s .device .plugged) b ≡ cond (deviceOk d && isAck (answered d (requestOf s))) (afterAck d (requestOf s) had b) (had b)
+      go true h = rw h (changed (requestOf s) (isAck (answered d (requestOf s))))
+      go false h = rw h e
+
+  step-reset : bitAt (wasReset d .device .plugged) b ≡ ledgerAfter d had reset b
+  unfolding wasReset
+  step-reset = go (deviceOk d) refl
+    where
+      go : (x : Bool) → deviceOk d ≡ x → bitAt (wasReset d .device .plugged) b ≡ cond (deviceOk d) false (had b)
+      go true h = rw h (zero-bit b)
+      go false h = rw h e
+
+  step : (c : Call) → bitAt (called d c .plugged) b ≡ ledgerAfter d had c b
+  unfolding resized pinned unpinned
+  step (request s) = step-request s
+  step (resize n) = chosen (deviceOk d) (cond (sizeFault d n) (refusal 14 d) (done (withRequested d n))) (refusal 27 d) (chosen (sizeFault d n) (refusal 14 d) (done (withRequested d n)) e e) e
+  step (pin c) =
+      chosen (deviceOk d) (cond (pinFault d c) (refusal 15 d) (done (withTables d (d .plugged) (withBlock (d .pinned) c true)))) (refusal 27 d)
+      (chosen (pinFault d c) (refusal 15 d) (done (withTables d (d .plugged) (withBlock (d .pinned) c true))) e e) e
+  step (unpin c) =
+      chosen (deviceOk d) (cond (not (bitAt (d .pinned) c)) (refusal 15 d) (done (withTables d (d .plugged) (withBlock (d .pinned) c false)))) (refusal 27 d)
+      (chosen (not (bitAt (d .pinned) c)) (refusal 15 d) (done (withTables d (d .plugged) (withBlock (d .pinned) c false))) e e) e
+  step reset = step-reset
+
+-- over any sequence
+pub plugged-is : (d : MemoryDevice) (had : ℕ → Bool) (cs : List Call) → ((b : ℕ) → b < 1024 → bitAt (d .plugged) b ≡ had b) → (b : ℕ) → b < 1024 → bitAt (after d cs .plugged) b ≡ ledger d had cs b
+unfolding after ledger
+plugged-is d had [] h b l = h b l
+plugged-is d had (c ∷ cs) h b l = plugged-is (called d c) (ledgerAfter d had c) cs (λ a m. step d had a m (h a m) c) b l
+
+-- 'from the fresh state on'
+pub plugged-from-fresh : (d : MemoryDevice) (cs : List Call) (b : ℕ) → b < 1024 → bitAt (after (fresh d) cs .plugged) b ≡ ledger (fresh d) (λ _. false) cs b
+plugged-from-fresh d cs b l = plugged-is (fresh d) (λ _. false) cs (λ a m. zero-bit a) b l
+
+-- and the record stays valid
+valid-after : (d : MemoryDevice) (c : Call) → deviceOk d ≡ true → deviceOk (called d c) ≡ true
+valid-after d (request s) h = carry-kept d s h
+valid-after d (resize n) h = resize-kept d n h
+valid-after d (pin b) h = pin-kept d b h
+valid-after d (unpin b) h = unpin-kept d b h
+valid-after d reset h = reset-kept d h
+
+pub valid-all : (d : MemoryDevice) (cs : List Call) → deviceOk d ≡ true → deviceOk (after d cs) ≡ true
+unfolding after
+valid-all d [] h = h
+valid-all d (c ∷ cs) h = valid-all (called d c) cs (valid-after d c h)

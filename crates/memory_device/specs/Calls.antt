@@ -1,0 +1,50 @@
+-- Sequences of calls, and the blocks that they acknowledged in and out: 'from the fresh state on these are the blocks acknowledged in less those acknowledged out'. Assumes nothing: these are definitions.
+use mathlib.Core.Bool.{Bool, true, false, cond, _&&_}
+use mathlib.Core.List.{List, [], _∷_}
+use Prim.Native.Nat.{ℕ}
+use lib.Dec.{eqb}
+use Rattle.memory_device.specs.Table.{within}
+use Rattle.memory_device.specs.Device.{deviceOk}
+use Rattle.memory_device.specs.Host.{resized, pinned, unpinned, wasReset}
+use Rattle.memory_device.specs.Request.{plug, unplug, unplugAll, requestOf, blockOf, answered, isAck, carried}
+use Rattle.memory_device.specs.declared.device.MemoryDevice.{MemoryDevice}
+use Rattle.memory_device.specs.declared.request.Request.{Request}
+
+-- a call of the host or a request of the guest
+pub data Call : Type 0 where
+  request : List ℕ → Call
+  resize : ℕ → Call
+  pin : ℕ → Call
+  unpin : ℕ → Call
+  reset : Call
+
+-- the state after a call
+abbrev pub called : MemoryDevice → Call → MemoryDevice
+called d (request s) = carried d s .device
+called d (resize n) = resized d n .device
+called d (pin b) = pinned d b .device
+called d (unpin b) = unpinned d b .device
+called d reset = wasReset d .device
+
+-- the blocks held after an acknowledged request, where `had` were held before
+abbrev pub afterAck : MemoryDevice → Request → (ℕ → Bool) → ℕ → Bool
+afterAck d r had b =
+    cond (eqb (r .kind) plug) (cond (within (blockOf d (r .addr .0)) (r .blocks) b) true (had b))
+    (cond (eqb (r .kind) unplug) (cond (within (blockOf d (r .addr .0)) (r .blocks) b) false (had b)) (cond (eqb (r .kind) unplugAll) false (had b)))
+
+-- the blocks acknowledged in less those acknowledged out, one call further; a system reset gives all back
+abbrev pub ledgerAfter : MemoryDevice → (ℕ → Bool) → Call → ℕ → Bool
+ledgerAfter d had (request s) b = cond (deviceOk d && isAck (answered d (requestOf s))) (afterAck d (requestOf s) had b) (had b)
+ledgerAfter d had (resize n) b = had b
+ledgerAfter d had (pin c) b = had b
+ledgerAfter d had (unpin c) b = had b
+ledgerAfter d had reset b = cond (deviceOk d) false (had b)
+
+-- the state, and the ledger, after a sequence of calls
+unfoldable pub after : MemoryDevice → List Call → MemoryDevice
+after d [] = d
+after d (c ∷ cs) = after (called d c) cs
+
+unfoldable pub ledger : MemoryDevice → (ℕ → Bool) → List Call → ℕ → Bool
+ledger d had [] = had
+ledger d had (c ∷ cs) = ledger (called d c) (ledgerAfter d had c) cs
