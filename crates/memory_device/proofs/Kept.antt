@@ -33,9 +33,13 @@ unfolding deviceOk tablesOk
 device-ok d s p q =
     let r = setup-ruled (d .«block_size») (d .addr) (d .«region_size») (d .«usable_size») (d .«requested_size») s in
     let wide : d .«usable_size» / d .«block_size» ≤ d .«region_size» / d .«block_size» = blocks-mono (d .«block_size») (d .«usable_size») (d .«region_size») (omega (arith, r .least)) (r .usable) in
-    rw (s, only-of (d .plugged) (d .«region_size» / d .«block_size») (λ b l e. let z = p b l e in omega arith),
-    only-of (d .pinned) (d .«region_size» / d .«block_size») (λ b l e. let z = p b l (q b l e) in omega arith),
-    only-of (d .plugged) (d .«usable_size» / d .«block_size») p, part-of (d .pinned) (d .plugged) q)
+    rw (
+      s,
+      only-of (d .plugged) (d .«region_size» / d .«block_size») (λ b l e. let z = p b l e in omega arith),
+      only-of (d .pinned) (d .«region_size» / d .«block_size») (λ b l e. let z = p b l (q b l e) in omega arith),
+      only-of (d .plugged) (d .«usable_size» / d .«block_size») p,
+      part-of (d .pinned) (d .plugged) q,
+    )
 
 -- a block inside or outside a run
 inside-run : (from n b : ℕ) → within from n b ≡ true → (from ≤ b) × (b < from + n)
@@ -80,12 +84,16 @@ resized-setup d size h whole fits =
     let b = d .«block_size» in
     let s = setup-of d h in
     let rest = and-snd (blockOk b) (regionOk b (d .«region_size») && (addrOk b (d .addr) (d .«region_size») && sizesOk b (d .«region_size») (d .«usable_size») (d .«requested_size»))) s in
-    rw (and-fst (blockOk b) (regionOk b (d .«region_size») && (addrOk b (d .addr) (d .«region_size») && sizesOk b (d .«region_size») (d .«usable_size») (d .«requested_size»))) s,
-    and-fst (regionOk b (d .«region_size»)) (addrOk b (d .addr) (d .«region_size») && sizesOk b (d .«region_size») (d .«usable_size») (d .«requested_size»)) rest,
-    and-fst (addrOk b (d .addr) (d .«region_size»)) (sizesOk b (d .«region_size») (d .«usable_size») (d .«requested_size»))
-    (and-snd (regionOk b (d .«region_size»)) (addrOk b (d .addr) (d .«region_size») && sizesOk b (d .«region_size») (d .«usable_size») (d .«requested_size»)) rest),
-    le-leb size (max (d .«usable_size») size) (omega arith), le-leb (max (d .«usable_size») size) (d .«region_size») (omega (arith, v .usable)),
-    eq-eqb (max (d .«usable_size») size % b) 0 (larger (d .«usable_size») size b (v .«whole-usable») whole), eq-eqb (size % b) 0 whole)
+    rw (
+      and-fst (blockOk b) (regionOk b (d .«region_size») && (addrOk b (d .addr) (d .«region_size») && sizesOk b (d .«region_size») (d .«usable_size») (d .«requested_size»))) s,
+      and-fst (regionOk b (d .«region_size»)) (addrOk b (d .addr) (d .«region_size») && sizesOk b (d .«region_size») (d .«usable_size») (d .«requested_size»)) rest,
+      and-fst (addrOk b (d .addr) (d .«region_size»)) (sizesOk b (d .«region_size») (d .«usable_size») (d .«requested_size»))
+          (and-snd (regionOk b (d .«region_size»)) (addrOk b (d .addr) (d .«region_size») && sizesOk b (d .«region_size») (d .«usable_size») (d .«requested_size»)) rest),
+      le-leb size (max (d .«usable_size») size) (omega arith),
+      le-leb (max (d .«usable_size») size) (d .«region_size») (omega (arith, v .usable)),
+      eq-eqb (max (d .«usable_size») size % b) 0 (larger (d .«usable_size») size b (v .«whole-usable») whole),
+      eq-eqb (size % b) 0 whole,
+    )
   where
     larger : (a c b : ℕ) → a % b ≡ 0 → c % b ≡ 0 → max a c % b ≡ 0
     larger a c b p q = go (decLt a c)
@@ -118,13 +126,13 @@ pin-kept d b h =
     rw h
     (either (pinFault d b) (refusal 15 d) (done (withTables d (d .plugged) (withBlock (d .pinned) b true))) (λ _. h)
     (λ e.
-        let plugged : bitAt (d .plugged) b ≡ true =
-            not-off (bitAt (d .plugged) b)
-            (or-parts (not (ltb b (d .«region_size» / d .«block_size»))) (not (bitAt (d .plugged) b))
-            (or-parts (not (ltb b (d .«region_size» / d .«block_size»)) || not (bitAt (d .plugged) b)) (bitAt (d .pinned) b) e .0) .1) in
-        device-ok (withTables d (d .plugged) (withBlock (d .pinned) b true)) (setup-of d h) (device-valid d h .inside)
-        (λ c l s. run-set (d .pinned) b 1 c l s (bitAt (d .plugged) c ≡ true)
-        (λ w. let z = inside-run b 1 c w in subst (λ (x : ℕ). bitAt (d .plugged) x ≡ true) (let y : b ≡ c = omega arith in y) plugged) (device-valid d h .held c l))))
+    let plugged : bitAt (d .plugged) b ≡ true =
+    not-off (bitAt (d .plugged) b)
+    (or-parts (not (ltb b (d .«region_size» / d .«block_size»))) (not (bitAt (d .plugged) b))
+    (or-parts (not (ltb b (d .«region_size» / d .«block_size»)) || not (bitAt (d .plugged) b)) (bitAt (d .pinned) b) e .0) .1) in
+    device-ok (withTables d (d .plugged) (withBlock (d .pinned) b true)) (setup-of d h) (device-valid d h .inside)
+    (λ c l s. run-set (d .pinned) b 1 c l s (bitAt (d .plugged) c ≡ true)
+    (λ w. let z = inside-run b 1 c w in subst (λ (x : ℕ). bitAt (d .plugged) x ≡ true) (let y : b ≡ c = omega arith in y) plugged) (device-valid d h .held c l))))
 
 pub unpin-kept : (d : MemoryDevice) (b : ℕ) → deviceOk d ≡ true → deviceOk (unpinned d b .device) ≡ true
 unfolding unpinned
@@ -139,14 +147,14 @@ resize-kept d size h =
     rw h
     (either (sizeFault d size) (refusal 14 d) (done (withRequested d size)) (λ _. h)
     (λ e.
-        let v = device-valid d h in
-        let b = d .«block_size» in
-        let f = or-parts (not (eqb (size % b) 0)) (ltb (d .«region_size») size) e in
-        let whole : size % b ≡ 0 = eqb-true (size % b) 0 (not-off (eqb (size % b) 0) (f .0)) in
-        let fits : size ≤ d .«region_size» = ltb-false (d .«region_size») size (f .1) in
-        let pos : 0 < b = omega (arith, v .least) in
-        device-ok (withRequested d size) (resized-setup d size h whole fits)
-        (λ c l s. let z = v .inside c l s in let m = blocks-mono b (d .«usable_size») (max (d .«usable_size») size) pos (omega arith) in omega arith) (v .held)))
+    let v = device-valid d h in
+    let b = d .«block_size» in
+    let f = or-parts (not (eqb (size % b) 0)) (ltb (d .«region_size») size) e in
+    let whole : size % b ≡ 0 = eqb-true (size % b) 0 (not-off (eqb (size % b) 0) (f .0)) in
+    let fits : size ≤ d .«region_size» = ltb-false (d .«region_size») size (f .1) in
+    let pos : 0 < b = omega (arith, v .least) in
+    device-ok (withRequested d size) (resized-setup d size h whole fits)
+    (λ c l s. let z = v .inside c l s in let m = blocks-mono b (d .«usable_size») (max (d .«usable_size») size) pos (omega arith) in omega arith) (v .held)))
 
 -- an acknowledged UNPLUG or UNPLUG ALL met no pin
 unpinned-run : (x y : Bool) → isAck (cond x response.Error (cond y response.Busy response.Ack)) ≡ true → y ≡ false

@@ -15,8 +15,14 @@ use Rattle.memory_device.specs.declared.request.Response.the-variants.{A
 device : ℕ → ℕ → MemoryDevice
 device plugged pinned =
     record {
-      «block_size» = 4096; addr = 0x10000; «region_size» = 0x8000; «usable_size» = 0x6000; «requested_size» = 0x4000;
-      plugged = plugged ∷ replicate 15 0; pinned = pinned ∷ replicate 15 0 }
+      «block_size» = 4096;
+      addr = 0x10000;
+      «region_size» = 0x8000;
+      «usable_size» = 0x6000;
+      «requested_size» = 0x4000;
+      plugged = plugged ∷ replicate 15 0;
+      pinned = pinned ∷ replicate 15 0;
+    }
 
 -- a row: what is plugged and pinned, the request, and the answer
 pub record Row : Type 0 where

@@ -11,6 +11,8 @@ use Rattle.memory_device.specs.Device.{withTables, fresh, pluggedSize, d
 use Rattle.memory_device.specs.declared.device.MemoryDevice.{MemoryDevice}
 use Rattle.memory_device.specs.declared.device.Changed.{Changed}
 use Rattle.memory_device.specs.declared.host.Configuration.{Configuration}
+use Rattle.memory_device.specs.declared.host.ByteBlock.{ByteBlock}
+use Rattle.memory_device.specs.declared.host.ByteBlock.the-variants.{At, Outside, Record}
 
 pub record Outcome : Type 0 where
   pub reply : Reply
@@ -85,3 +87,21 @@ configured d =
 
 abbrev pub readOf : Configuration → Read
 readOf c = record { reply = hostReply (c .answer); bytes = c .bytes }
+
+-- 'Block of a byte = its offset in the managed node divided by the block size'
+abbrev pub blockOfByte : MemoryDevice → ℕ → ℕ
+blockOfByte d o = o / d .«block_size»
+
+-- the block of a byte of the region, or that the byte lies outside it, or 27
+pub data ByteIn : Type 0 where
+  block : ℕ → ByteIn
+  outside : ByteIn
+  refused : Reply → ByteIn
+
+unfoldable pub byteBlock : MemoryDevice → ℕ → ByteIn
+byteBlock d o = cond (deviceOk d) (cond (ltb o (d .«region_size»)) (block (blockOfByte d o)) outside) (refused (plain 27))
+
+abbrev pub byteOf : ByteBlock → ByteIn
+byteOf (At b) = block (b .0)
+byteOf Outside = outside
+byteOf Record = refused (plain 27)

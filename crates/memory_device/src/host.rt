@@ -1,6 +1,6 @@
 // The host's calls.
 ghost use mathlib.Core.Path.{_≡_};
-ghost use Rattle.memory_device.specs.Host.{outcomeOf, resized, pinned, unpinned, wasReset, configured, readOf};
+ghost use Rattle.memory_device.specs.Host.{outcomeOf, resized, pinned, unpinned, wasReset, configured, readOf, byteBlock, byteOf};
 use crate::bytes::configuration_bytes;
 use crate::device::BlockNumber;
 use crate::device::Changed;
@@ -13,11 +13,19 @@ use crate::state::plugged_size;
 use crate::state::with_requested;
 use crate::state::with_tables;
 use crate::table::with_run;
+use region_map::map::RegionOffset;
 
 // The answer, and the configuration's bytes: zeros, where the record is refused.
 pub struct Configuration {
     pub answer: HostAnswer,
     pub bytes: [u8; 56],
+}
+
+// The block of a byte, or that the byte lies outside the region, or 27.
+pub enum ByteBlock {
+    At(BlockNumber),
+    Outside,
+    Record,
 }
 
 impl MemoryDevice {
@@ -134,5 +142,20 @@ impl MemoryDevice {
             answer: HostAnswer::Record,
             bytes: [0u8; 56],
         }
+    }
+
+    // Document 01's block of a byte: by the offset in the managed region.
+    pub fn block_of_byte(self, offset: RegionOffset) -> ByteBlock
+        ensures { λ r. ⌜ byteOf r ≡ byteBlock self (offset .0) ⌝ }
+    {
+        let at = offset.0;
+        if device_ok(self) {
+            if at < self.region_size {
+                let block = at / self.block_size;
+                return ByteBlock::At(BlockNumber(block as u16));
+            }
+            return ByteBlock::Outside;
+        }
+        ByteBlock::Record
     }
 }
