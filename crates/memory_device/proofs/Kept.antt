@@ -13,6 +13,8 @@ use Rattle.memory_device.specs.Table.{bitOf, bitAt, within, tableOf, hel
 use Rattle.memory_device.specs.Device.{noBlocks, withTables, setupOk, blockOk, regionOk, addrOk, sizesOk, tablesOk, deviceOk, Valid}
 use Rattle.memory_device.specs.Host.{Outcome, refusal, done, sizeFault, withRequested, resized, pinFault, withBlock, pinned, unpinned, wasReset}
 use Rattle.memory_device.specs.Request.{requestOf, blockOf, inRange, heldOf, plugAnswer, unplugAnswer, unplugAllAnswer, stateAnswer, answered, isAck, withRun, acknowledged, changedBy, carried}
+use Rattle.memory_device.specs.SetUp.{deviceOf}
+use Rattle.memory_device.specs.declared.setup.DeviceValues.{DeviceValues}
 use Rattle.memory_device.specs.declared.device.MemoryDevice.{MemoryDevice}
 use Rattle.memory_device.specs.declared.request.Request.{Request}
 use Rattle.memory_device.proofs.TableLaws.{table-bit, held-none, zero-bit, never}
@@ -252,3 +254,7 @@ change-kept d r h = go (isAck (answered d r)) refl
 pub carry-kept : (d : MemoryDevice) (s : List ℕ) → deviceOk d ≡ true → deviceOk (carried d s .device) ≡ true
 unfolding carried
 carry-kept d s h = rw h (change-kept d (requestOf s) h)
+
+-- a device that was set up is valid
+pub set-up-valid : (v : DeviceValues) (region : ℕ) → setupOk (v .«block_size») (v .addr) region (v .«usable_size») (v .«requested_size») ≡ true → deviceOk (deviceOf v region) ≡ true
+set-up-valid v region s = device-ok (deviceOf v region) s (λ b l e. absurd (never (sym e ∙ zero-bit b))) (λ b l e. absurd (never (sym e ∙ zero-bit b)))

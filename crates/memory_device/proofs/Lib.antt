@@ -1,4 +1,5 @@
 mod AnswerLaws
+pub mod Answers
 pub mod ByteLaws
 mod HostLaws
 pub mod Kept

@@ -1,9 +1,11 @@
 // Setting the device up from a given map.
 ghost use mathlib.Core.Path.{_≡_};
 ghost use Prim.Native.Nat.{_≤_};
-ghost use Rattle.memory_device.specs.SetUp.{managedIn, regionSize, noDevice, setUp, outcomeOf};
+ghost use Rattle.memory_device.specs.SetUp.{regionSize, noDevice, setUp, setUpReply, outcomeOf};
+ghost use Rattle.region_map.specs.Reply.{numberOf};
 use crate::device::MemoryDevice;
 use crate::rules::setup_ok;
+use region_map::check;
 use region_map::check::MapAnswer;
 use region_map::check::accepts;
 use region_map::check::check_map;
@@ -95,5 +97,15 @@ pub fn set_up(map: RegionMap, memory_length: u64, values: DeviceValues) -> SetUp
     SetUp {
         answer: SetUpAnswer::Checked(answer),
         device: no_device(),
+    }
+}
+
+// Document 01's number of the refusal, and 0 where the device was set up.
+pub fn number_of(answer: SetUpAnswer) -> u64
+    ensures { λ r. ⌜ r ≡ numberOf (setUpReply answer) ⌝ }
+{
+    match answer {
+        SetUpAnswer::Values => 13,
+        SetUpAnswer::Checked(map) => check::number_of(map),
     }
 }

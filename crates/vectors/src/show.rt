@@ -7,12 +7,21 @@ use sheet::answer;
 use sheet::answer::SheetAnswer;
 use sheet::reading::read_sheet;
 
-fn word(text: &[u8]) {
+pub fn word(text: &[u8]) {
     io::write_all(STDOUT_FILENO, text);
 }
 
-fn decimal(n: u64) {
+pub fn decimal(n: u64) {
     io::print_decimal(STDOUT_FILENO, n);
+}
+
+pub fn hex(n: u64) {
+    io::print_hex(STDOUT_FILENO, n, 1);
+}
+
+// A byte in two digits.
+pub fn byte(n: u8) {
+    io::print_hex(STDOUT_FILENO, n as u64, 2);
 }
 
 fn at(place: usize) {
