@@ -1,3 +1,4 @@
+-- `listing::line::put_decimal` meets its contract. Assumes nothing.
 use Rattle.listing.proofs.LineLaws.{fewest-bound, decimal-spelled}
 use Rattle.listing.specs.Text.{textOf, Holds}
 use mathlib.Core.List.{List, _++_}
@@ -7,31 +8,22 @@ use native.Mathlib.Omega.{arith}
 use borrow.Author.Needs.{needs}
 use Rattle.listing.proofs.line.put_decimal.Statement.{statement}
 use Rattle.listing.proofs.line.put_decimal.Tie as tie
-use Rattle.listing.proofs.line.put_decimal.Reads as reads
-use Rattle.listing.proofs.line.put_decimal.Lts as lts
-use Rattle.io.proofs.decimal.Reads as decimal-reads
-use Rattle.listing.proofs.line.put_all.Reads as put-all-reads
 
 bound : (c : tie.After-decimal) → c .decimal .result ≤ 20
 bound c = fewest-bound 10 20 (c .before .before .args .n) (c .decimal .result) (omega arith) (omega arith) (omega (arith, c .before .before .fits .n)) (c .decimal .ensures .1 .0)
 
--- src/line.rt:67:9
 decimal-requires : tie.Need-decimal-requires
 decimal-requires c κs = search needs
 
--- src/line.rt:68:19
 array-share-prefix-digits : tie.Need-array-share-prefix-digits
 array-share-prefix-digits c = search needs
 
--- src/line.rt:68:19
 slice-aggregate-put-all : tie.Need-slice-aggregate-put-all
 slice-aggregate-put-all c = search needs
 
--- src/line.rt:68:5
 put-all-requires : tie.Need-put-all-requires
 put-all-requires c κs = omega (arith, bound (c .before), c .before .decimal .ensures .0 .1, c .before .before .before .pre)
 
--- src/line.rt:62:1
 returns : tie.Need-returns
 returns c = (
   subst (λ (t : List ℕ). Holds (textOf (c .before .before .before .before .args .line) ++ t) (c .put-all .result)) (c .before .before .decimal .ensures .1 .1 ∙ decimal-spelled _ _ (bound (c .before .before)) (c .before .before .decimal .ensures .1 .0)) (c .put-all .ensures .0),

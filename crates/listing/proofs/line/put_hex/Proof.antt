@@ -1,3 +1,4 @@
+-- `listing::line::put_hex` meets its contract. Assumes nothing.
 use Rattle.listing.proofs.LineLaws.{fewest-bound, hex-spelled}
 use Rattle.listing.specs.Text.{textOf, Holds}
 use mathlib.Core.List.{List, _++_}
@@ -7,31 +8,22 @@ use native.Mathlib.Omega.{arith}
 use borrow.Author.Needs.{needs}
 use Rattle.listing.proofs.line.put_hex.Statement.{statement}
 use Rattle.listing.proofs.line.put_hex.Tie as tie
-use Rattle.listing.proofs.line.put_hex.Reads as reads
-use Rattle.listing.proofs.line.put_hex.Lts as lts
-use Rattle.io.proofs.hex.Reads as hex-reads
-use Rattle.listing.proofs.line.put_all.Reads as put-all-reads
 
 bound : (c : tie.After-hex) → c .hex .result ≤ 16
 bound c = fewest-bound 16 16 (c .before .before .args .n) (c .hex .result) (omega arith) (omega arith) (omega (arith, c .before .before .fits .n)) (c .hex .ensures .1 .0)
 
--- src/line.rt:57:9
 hex-requires : tie.Need-hex-requires
 hex-requires c κs = search needs
 
--- src/line.rt:58:19
 array-share-prefix-digits : tie.Need-array-share-prefix-digits
 array-share-prefix-digits c = search needs
 
--- src/line.rt:58:19
 slice-aggregate-put-all : tie.Need-slice-aggregate-put-all
 slice-aggregate-put-all c = search needs
 
--- src/line.rt:58:5
 put-all-requires : tie.Need-put-all-requires
 put-all-requires c κs = omega (arith, bound (c .before), c .before .hex .ensures .0 .1, c .before .before .before .pre)
 
--- src/line.rt:52:1
 returns : tie.Need-returns
 returns c = (
   subst (λ (t : List ℕ). Holds (textOf (c .before .before .before .before .args .line) ++ t) (c .put-all .result)) (c .before .before .hex .ensures .1 .1 ∙ hex-spelled _ _ (bound (c .before .before)) (c .before .before .hex .ensures .1 .0)) (c .put-all .ensures .0),

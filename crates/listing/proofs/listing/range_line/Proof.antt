@@ -1,3 +1,4 @@
+-- `listing::listing::range_line` meets its contract. Assumes nothing.
 use Rattle.listing.proofs.LineLaws.{line-then, line-of}
 use Rattle.listing.specs.Text.{hexText, decimalText, rangeText, Holds}
 use native.Mathlib.Omega.{arith}
@@ -6,50 +7,34 @@ use mathlib.Core.List.{List, [], _∷_, _++_}
 use borrow.Author.Needs.{needs}
 use Rattle.listing.proofs.listing.range_line.Statement.{statement}
 use Rattle.listing.proofs.listing.range_line.Tie as tie
-use Rattle.listing.proofs.listing.range_line.Reads as reads
-use Rattle.listing.proofs.listing.range_line.Lts as lts
-use Rattle.listing.proofs.line.empty_line.Reads as empty-line-reads
-use Rattle.listing.proofs.line.put.Reads as put-reads
-use Rattle.listing.proofs.line.put_decimal.Reads as put-decimal-reads
-use Rattle.listing.proofs.line.put_hex.Reads as put-hex-reads
 
--- src/listing.rt:22:29
 empty-line-requires : tie.Need-empty-line-requires
 empty-line-requires c κs = search needs
 
--- src/listing.rt:22:21
 put-hex-requires : tie.Need-put-hex-requires
 put-hex-requires c κs = search needs
 
--- src/listing.rt:22:9
 put-requires : tie.Need-put-requires
 put-requires c κs = search needs
 
--- src/listing.rt:23:20
 put-hex-requires-2 : tie.Need-put-hex-requires-2
 put-hex-requires-2 c κs = search needs
 
--- src/listing.rt:23:9
 put-requires-2 : tie.Need-put-requires-2
 put-requires-2 c κs = search needs
 
--- src/listing.rt:24:22
 put-decimal-requires : tie.Need-put-decimal-requires
 put-decimal-requires c κs = search needs
 
--- src/listing.rt:24:9
 put-requires-3 : tie.Need-put-requires-3
 put-requires-3 c κs = search needs
 
--- src/listing.rt:25:9
 put-hex-requires-3 : tie.Need-put-hex-requires-3
 put-hex-requires-3 c κs = search needs
 
--- src/listing.rt:25:5
 put-requires-4 : tie.Need-put-requires-4
 put-requires-4 c κs = omega (arith, c .put-hex3 .ensures .1 .0, c .before .put3 .ensures .1 .0, c .before .before .put-decimal .ensures .1 .0, c .before .before .before .put2 .ensures .1 .0, c .before .before .before .before .put-hex2 .ensures .1 .0, c .before .before .before .before .before .put .ensures .1 .0, c .before .before .before .before .before .before .put-hex .ensures .1 .0, c .before .before .before .before .before .before .before .empty-line .ensures .1 .0)
 
--- src/listing.rt:19:1
 returns : tie.Need-returns
 unfolding rangeText
 returns c =

@@ -1,3 +1,4 @@
+-- `listing::listing::refusal_line` meets its contract. Assumes nothing.
 use Rattle.listing.proofs.LineLaws.{line-then, line-of}
 use Rattle.listing.specs.Text.{decimalText, refusalText, Holds}
 use Prim.Native.Nat.{ℕ}
@@ -5,34 +6,22 @@ use mathlib.Core.List.{List, [], _∷_, _++_}
 use borrow.Author.Needs.{needs}
 use Rattle.listing.proofs.listing.refusal_line.Statement.{statement}
 use Rattle.listing.proofs.listing.refusal_line.Tie as tie
-use Rattle.listing.proofs.listing.refusal_line.Reads as reads
-use Rattle.listing.proofs.listing.refusal_line.Lts as lts
-use Rattle.listing.proofs.line.empty_line.Reads as empty-line-reads
-use Rattle.listing.proofs.line.put.Reads as put-reads
-use Rattle.listing.proofs.line.put_all.Reads as put-all-reads
-use Rattle.listing.proofs.line.put_decimal.Reads as put-decimal-reads
 
--- src/listing.rt:32:24
 empty-line-requires : tie.Need-empty-line-requires
 empty-line-requires c κs = search needs
 
--- src/listing.rt:32:38
 slice-aggregate-put-all : tie.Need-slice-aggregate-put-all
 slice-aggregate-put-all c = search needs
 
--- src/listing.rt:32:9
 put-all-requires : tie.Need-put-all-requires
 put-all-requires c κs = search needs
 
--- src/listing.rt:33:9
 put-decimal-requires : tie.Need-put-decimal-requires
 put-decimal-requires c κs = search needs
 
--- src/listing.rt:33:5
 put-requires : tie.Need-put-requires
 put-requires c κs = search needs
 
--- src/listing.rt:29:1
 returns : tie.Need-returns
 unfolding refusalText
 returns c =

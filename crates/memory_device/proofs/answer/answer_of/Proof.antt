@@ -1,3 +1,4 @@
+-- `memory_device::answer::answer_of` meets its contract. Assumes nothing.
 use Rattle.memory_device.proofs.AnswerLaws.{all-answer, other-answer, out-answer, plug-answer, unplug-answer, state-answer}
 use Prim.Native.Nat.{ℕ}
 use native.Mathlib.Omega.{arith}
@@ -5,61 +6,41 @@ use mathlib.Core.Path.{_≡_, refl, sym, ap, _∙_}
 use borrow.Author.Needs.{needs}
 use Rattle.memory_device.proofs.answer.answer_of.Statement.{statement}
 use Rattle.memory_device.proofs.answer.answer_of.Tie as tie
-use Rattle.memory_device.proofs.answer.answer_of.Reads as reads
-use Rattle.memory_device.proofs.answer.answer_of.Lts as lts
-use Rattle.memory_device.proofs.answer.in_range.Reads as in-range-reads
-use Rattle.memory_device.proofs.answer.plug_answer.Reads as plug-answer-reads
-use Rattle.memory_device.proofs.answer.run_start.Reads as run-start-reads
-use Rattle.memory_device.proofs.answer.state_answer.Reads as state-answer-reads
-use Rattle.memory_device.proofs.answer.unplug_all_answer.Reads as unplug-all-answer-reads
-use Rattle.memory_device.proofs.answer.unplug_answer.Reads as unplug-answer-reads
 
--- src/answer.rt:168:9
 unplug-all-answer-requires : tie.Need-unplug-all-answer-requires
 unplug-all-answer-requires c κs = search needs
 
--- src/answer.rt:168:9
 returns : tie.Need-returns
 returns c = c .unplug-all-answer .ensures ∙ all-answer _ _ (c .before .if1 .taken)
 
--- src/answer.rt:171:9
 returns-2 : tie.Need-returns-2
 returns-2 c = other-answer _ _ (c .if2 .taken)
 
--- src/answer.rt:173:8
 in-range-requires : tie.Need-in-range-requires
 in-range-requires c κs = c .before .before .pre
 
--- src/answer.rt:174:13
 run-start-requires : tie.Need-run-start-requires
 run-start-requires c κs = (c .before .before .before .before .pre .0, sym (c .before .in-range .ensures) ∙ c .if3 .taken)
 
--- src/answer.rt:176:13
 plug-answer-requires : tie.Need-plug-answer-requires
 plug-answer-requires c κs = (c .before .before .before .before .before .before .pre .0, c .before .run-start .ensures)
 
--- src/answer.rt:176:13
 returns-3 : tie.Need-returns-3
 returns-3 c = c .plug-answer .ensures ∙ plug-answer _ _ (c .before .if4 .taken) (sym (c .before .before .before .before .in-range .ensures) ∙ c .before .before .before .if3 .taken)
 
--- src/answer.rt:179:13
 unplug-answer-requires : tie.Need-unplug-answer-requires
 unplug-answer-requires c κs = c .before .before .run-start .ensures
 
--- src/answer.rt:179:13
 returns-4 : tie.Need-returns-4
 returns-4 c = c .unplug-answer .ensures ∙ unplug-answer _ _ (c .before .if5 .taken) (sym (c .before .before .before .before .before .in-range .ensures) ∙ c .before .before .before .before .if3 .taken)
 
--- src/answer.rt:181:9
 state-answer-requires : tie.Need-state-answer-requires
 state-answer-requires c κs = c .before .before .run-start .ensures
 
--- src/answer.rt:181:9
 returns-5 : tie.Need-returns-5
 returns-5 c = let k : c .before .before .before .before .before .before .before .before .args .request .kind ≡ 3 = omega (arith, c .before .if5 .left, c .before .before .if4 .left, c .before .before .before .before .before .before .if2 .left, c .before .before .before .before .before .before .before .if1 .left) in
     c .state-answer .ensures ∙ state-answer _ _ k (sym (c .before .before .before .before .before .in-range .ensures) ∙ c .before .before .before .before .if3 .taken)
 
--- src/answer.rt:161:1
 returns-6 : tie.Need-returns-6
 returns-6 c = out-answer _ _ (c .before .before .before .if1 .left) (sym (c .before .in-range .ensures) ∙ c .if3 .left)
 

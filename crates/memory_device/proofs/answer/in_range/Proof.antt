@@ -1,29 +1,23 @@
+-- `memory_device::answer::in_range` meets its contract. Assumes nothing.
 use Rattle.memory_device.proofs.AnswerLaws.{in-low, in-past, in-test, size-bound}
 use native.Mathlib.Omega.{arith}
 use mathlib.Core.Path.{_≡_, refl, sym, ap, _∙_}
 use borrow.Author.Needs.{needs}
 use Rattle.memory_device.proofs.answer.in_range.Statement.{statement}
 use Rattle.memory_device.proofs.answer.in_range.Tie as tie
-use Rattle.memory_device.proofs.answer.in_range.Reads as reads
-use Rattle.memory_device.proofs.answer.in_range.Lts as lts
 
--- src/answer.rt:66:9
 returns : tie.Need-returns
 returns c = in-low (c .before .before .args .device) (c .before .before .args .request) (c .if1 .taken)
 
--- src/answer.rt:69:16
 mul-size : tie.Need-mul-size
 mul-size c = let s = c .before .before .before .before .before in omega (arith, size-bound (s .args .request .blocks) (s .args .device .«block_size») (omega (arith, s .pre .1)) (s .pre .0 .most))
 
--- src/answer.rt:71:9
 returns-2 : tie.Need-returns-2
 returns-2 c = in-past (c .before .before .before .before .before .before .before .args .device) (c .before .before .before .before .before .before .before .args .request) (c .if2 .taken)
 
--- src/answer.rt:73:6
 rem-result : tie.Need-rem-result
 rem-result c = search needs
 
--- src/answer.rt:59:1
 returns-3 : tie.Need-returns-3
 returns-3 c = in-test (c .before .before .before .before .before .before .before .before .before .before .args .device) (c .before .before .before .before .before .before .before .before .before .before .args .request) (c .before .before .before .before .before .before .before .before .if1 .left) (c .before .before .before .if2 .left)
 

@@ -1,3 +1,4 @@
+-- `memory_device::answer::plug_answer` meets its contract. Assumes nothing.
 use Rattle.memory_device.proofs.AnswerLaws.{size-bound}
 use Rattle.memory_device.specs.Request.{blockOf}
 use Rattle.memory_device.specs.Table.{heldIn}
@@ -8,39 +9,28 @@ use mathlib.Core.Path.{_≡_, refl, sym, ap, _∙_}
 use borrow.Author.Needs.{needs}
 use Rattle.memory_device.proofs.answer.plug_answer.Statement.{statement}
 use Rattle.memory_device.proofs.answer.plug_answer.Tie as tie
-use Rattle.memory_device.proofs.answer.plug_answer.Reads as reads
-use Rattle.memory_device.proofs.answer.plug_answer.Lts as lts
-use Rattle.memory_device.proofs.state.plugged_size.Reads as plugged-size-reads
-use Rattle.memory_device.proofs.table.held.Reads as held-reads
 
 set-is : (c : tie.After-held) → c .held .result ≡ heldIn (c .before .before .args .device .plugged) (blockOf (c .before .before .args .device) (c .before .before .args .request .addr .0)) (c .before .before .args .request .blocks)
 set-is c = c .held .ensures .0 ∙ ap (λ (x : ℕ). heldIn (c .before .before .args .device .plugged) x (c .before .before .args .request .blocks)) (c .before .before .pre .1 .0)
 
--- src/answer.rt:93:12
 held-requires : tie.Need-held-requires
 held-requires c κs = search needs
 
--- src/answer.rt:94:9
 returns : tie.Need-returns
 returns c = rw (← set-is (c .before), lt-ltb _ _ (c .if1 .taken))
 
--- src/answer.rt:96:16
 plugged-size-requires : tie.Need-plugged-size-requires
 plugged-size-requires c κs = c .before .before .before .pre .0 .most
 
--- src/answer.rt:96:39
 mul-size : tie.Need-mul-size
 mul-size c = let s = c .before .before .before .before .before .before in omega (arith, size-bound (s .args .request .blocks) (s .args .device .«block_size») (omega (arith, s .pre .1 .1)) (s .pre .0 .most))
 
--- src/answer.rt:96:16
 add-size : tie.Need-add-size
 add-size c = let s = c .before .before .before .before .before .before in omega (arith, c .before .before .plugged-size .ensures .1, size-bound (s .args .request .blocks) (s .args .device .«block_size») (omega (arith, s .pre .1 .1)) (s .pre .0 .most))
 
--- src/answer.rt:98:9
 returns-2 : tie.Need-returns-2
 returns-2 c = rw (← set-is (c .before .before .before .before .before .before), le-ltb _ _ (c .before .before .before .before .before .if1 .left), ← c .before .before .before .before .plugged-size .ensures .0, lt-ltb _ _ (c .if2 .taken))
 
--- src/answer.rt:86:1
 returns-3 : tie.Need-returns-3
 returns-3 c = rw (← set-is (c .before .before .before .before .before .before), le-ltb _ _ (c .before .before .before .before .before .if1 .left), ← c .before .before .before .before .plugged-size .ensures .0, le-ltb _ _ (c .if2 .left))
 

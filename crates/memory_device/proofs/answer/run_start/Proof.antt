@@ -1,3 +1,4 @@
+-- `memory_device::answer::run_start` meets its contract. Assumes nothing.
 use Prim.Native.Nat.{_+_, _≤_}
 use Rattle.memory_device.proofs.AnswerLaws.{in-facts, in-room}
 use native.Mathlib.Omega.{arith}
@@ -5,19 +6,13 @@ use mathlib.Core.Path.{_≡_, refl, sym, ap, _∙_}
 use borrow.Author.Needs.{needs}
 use Rattle.memory_device.proofs.answer.run_start.Statement.{statement}
 use Rattle.memory_device.proofs.answer.run_start.Tie as tie
-use Rattle.memory_device.proofs.answer.run_start.Reads as reads
-use Rattle.memory_device.proofs.answer.run_start.Lts as lts
-use Rattle.memory_device.proofs.answer.block_of_request.Reads as block-of-request-reads
 
--- src/answer.rt:93:9
 block-of-request-requires : tie.Need-block-of-request-requires
 block-of-request-requires c κs = in-facts (c .before .args .device) (c .before .args .request) (c .before .pre .0) (c .before .pre .1)
 
--- src/answer.rt:94:5
 cast-result : tie.Need-cast-result
 cast-result c = let s = c .before .before .before in omega (arith, c .before .block-of-request .ensures, in-facts (s .args .device) (s .args .request) (s .pre .0) (s .pre .1))
 
--- src/answer.rt:87:1
 returns : tie.Need-returns
 returns c = let s = c .before .before .before in (c .before .block-of-request .ensures, omega (arith, c .before .block-of-request .ensures, in-room (s .args .device) (s .args .request) (s .pre .0) (s .pre .1)))
 

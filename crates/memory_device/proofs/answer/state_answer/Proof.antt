@@ -1,3 +1,4 @@
+-- `memory_device::answer::state_answer` meets its contract. Assumes nothing.
 use Rattle.memory_device.specs.Request.{blockOf}
 use Rattle.memory_device.specs.Table.{heldIn}
 use Prim.Native.Nat.{ℕ, _+_, _*_, _≤_}
@@ -7,26 +8,19 @@ use mathlib.Core.Path.{_≡_, refl, sym, ap, _∙_}
 use borrow.Author.Needs.{needs}
 use Rattle.memory_device.proofs.answer.state_answer.Statement.{statement}
 use Rattle.memory_device.proofs.answer.state_answer.Tie as tie
-use Rattle.memory_device.proofs.answer.state_answer.Reads as reads
-use Rattle.memory_device.proofs.answer.state_answer.Lts as lts
-use Rattle.memory_device.proofs.table.held.Reads as held-reads
 
 set-is : (c : tie.After-held) → c .held .result ≡ heldIn (c .before .before .args .device .plugged) (blockOf (c .before .before .args .device) (c .before .before .args .request .addr .0)) (c .before .before .args .request .blocks)
 set-is c = c .held .ensures .0 ∙ ap (λ (x : ℕ). heldIn (c .before .before .args .device .plugged) x (c .before .before .args .request .blocks)) (c .before .before .pre .0)
 
--- src/answer.rt:138:9
 held-requires : tie.Need-held-requires
 held-requires c κs = search needs
 
--- src/answer.rt:140:9
 returns : tie.Need-returns
 returns c = rw (← set-is (c .before), eq-eqb _ _ (c .if1 .taken))
 
--- src/answer.rt:143:9
 returns-2 : tie.Need-returns-2
 returns-2 c = rw (← set-is (c .before .before), ne-eqb _ _ (c .before .if1 .left), eq-eqb _ _ (c .if2 .taken))
 
--- src/answer.rt:132:1
 returns-3 : tie.Need-returns-3
 returns-3 c = rw (← set-is (c .before .before), ne-eqb _ _ (c .before .if1 .left), ne-eqb _ _ (c .if2 .left))
 

@@ -1,21 +1,16 @@
+-- `memory_device::answer::unplug_all_answer` meets its contract. Assumes nothing.
 use borrow.Author.Tests.{lt-ltb, le-ltb, eq-eqb, ne-eqb}
 use mathlib.Core.Path.{_≡_, refl, sym, ap, _∙_}
 use borrow.Author.Needs.{needs}
 use Rattle.memory_device.proofs.answer.unplug_all_answer.Statement.{statement}
 use Rattle.memory_device.proofs.answer.unplug_all_answer.Tie as tie
-use Rattle.memory_device.proofs.answer.unplug_all_answer.Reads as reads
-use Rattle.memory_device.proofs.answer.unplug_all_answer.Lts as lts
-use Rattle.memory_device.proofs.table.total.Reads as total-reads
 
--- src/answer.rt:125:12
 total-requires : tie.Need-total-requires
 total-requires c κs = search needs
 
--- src/answer.rt:126:9
 returns : tie.Need-returns
 returns c = rw (← c .before .total .ensures .0, lt-ltb _ _ (c .if1 .taken))
 
--- src/answer.rt:121:1
 returns-2 : tie.Need-returns-2
 returns-2 c = rw (← c .before .total .ensures .0, le-ltb _ _ (c .if1 .left))
 

@@ -1,24 +1,18 @@
+-- `memory_device::request::request_of` meets its contract. Assumes nothing.
 use native.Mathlib.Omega.{arith}
 use borrow.Author.Needs.{needs}
 use Rattle.memory_device.proofs.request.request_of.Statement.{statement}
 use Rattle.memory_device.proofs.request.request_of.Tie as tie
-use Rattle.memory_device.proofs.request.request_of.Reads as reads
-use Rattle.memory_device.proofs.request.request_of.Lts as lts
-use Rattle.memory_device.proofs.bytes.number_at.Reads as number-at-reads
 
--- src/request.rt:40:9
 number-at-requires : tie.Need-number-at-requires
 number-at-requires c κs = search needs
 
--- src/request.rt:41:9
 number-at-requires-2 : tie.Need-number-at-requires-2
 number-at-requires-2 c κs = search needs
 
--- src/request.rt:42:9
 number-at-requires-3 : tie.Need-number-at-requires-3
 number-at-requires-3 c κs = search needs
 
--- src/request.rt:37:1
 returns : tie.Need-returns
 returns c = (rw (c .before .before .number-at .ensures .0, c .before .number-at2 .ensures .0, c .number-at3 .ensures .0), omega (arith, c .number-at3 .ensures .1))
 

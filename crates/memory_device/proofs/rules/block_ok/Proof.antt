@@ -1,3 +1,4 @@
+-- `memory_device::rules::block_ok` meets its contract. Assumes nothing.
 use Rattle.memory_device.proofs.RuleLaws.{power-none, power-next, power-is, same-end}
 use Rattle.memory_device.specs.Device.{powerBelow}
 use lib.Pow.{pow-mono, pow-add}
@@ -8,8 +9,6 @@ use mathlib.Core.Path.{_≡_, refl, sym, ap, _∙_}
 use borrow.Author.Needs.{needs}
 use Rattle.memory_device.proofs.rules.block_ok.Statement.{statement}
 use Rattle.memory_device.proofs.rules.block_ok.Tie as tie
-use Rattle.memory_device.proofs.rules.block_ok.Reads as reads
-use Rattle.memory_device.proofs.rules.block_ok.Lts as lts
 
 abbrev Inv-loop : tie.InvT-loop
 Inv-loop block power₀ k₀ power k = (k ≤ 19) × (power ≡ 2 ^ (12 + k)) × (powerBelow block k ≡ false)
@@ -17,32 +16,25 @@ Inv-loop block power₀ k₀ power k = (k ≤ 19) × (power ≡ 2 ^ (12 + k)) ×
 abbrev μ-loop : tie.MeasureT-loop
 μ-loop block power₀ k₀ power k = 19 - k
 
--- src/rules.rt:16:5
 loop-holds : tie.Need-loop-holds Inv-loop μ-loop
 loop-holds c = (omega arith, refl, power-none _)
 
--- src/rules.rt:18:13
 returns : tie.Need-returns Inv-loop μ-loop
 returns c = sym (power-is _ 19 _ (c .before .loop-test .taken) (c .if1 .taken ∙ c .before .before .loop .inv .1))
 
--- src/rules.rt:20:9
 mul-power : tie.Need-mul-power Inv-loop μ-loop
 mul-power c = let k = c .before .before .loop .k in omega (arith, c .before .before .loop .inv .1, pow-mono {i = 12 + k} {j = 30} (omega (arith, c .before .loop-test .taken)))
 
--- src/rules.rt:16:9
 add-k : tie.Need-add-k Inv-loop μ-loop
 add-k c = search needs
 
--- src/rules.rt:16:5
 loop-less : tie.Need-loop-less Inv-loop μ-loop
 loop-less c = search needs
 
--- src/rules.rt:16:5
 loop-again : tie.Need-loop-again Inv-loop μ-loop
 loop-again c = let l = c .before .before .loop in
     (omega (arith, c .before .loop-test .taken), ap (λ (x : ℕ). x * 2) (l .inv .1) ∙ sym (pow-add 2 (12 + l .k) 1) ∙ ap (λ (x : ℕ). 2 ^ x) (omega arith), power-next _ _ (l .inv .2) (λ e. c .if1 .left (e ∙ sym (l .inv .1))))
 
--- src/rules.rt:12:1
 returns-2 : tie.Need-returns-2 Inv-loop μ-loop
 returns-2 c = sym (ap (powerBelow (c .before .before .args .block)) (same-end (c .loop-test .left) (c .before .loop .inv .0)) ∙ c .before .loop .inv .2)
 

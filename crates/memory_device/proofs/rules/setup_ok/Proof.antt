@@ -1,3 +1,4 @@
+-- `memory_device::rules::setup_ok` meets its contract. Assumes nothing.
 use Rattle.memory_device.proofs.RuleLaws.{power-bounds}
 use Rattle.memory_device.specs.Device.{blockOk, setupOk}
 use native.Mathlib.Omega.{arith}
@@ -7,12 +8,6 @@ use mathlib.Core.Path.{_≡_, sym, _∙_}
 use borrow.Author.Needs.{needs}
 use Rattle.memory_device.proofs.rules.setup_ok.Statement.{statement}
 use Rattle.memory_device.proofs.rules.setup_ok.Tie as tie
-use Rattle.memory_device.proofs.rules.setup_ok.Reads as reads
-use Rattle.memory_device.proofs.rules.setup_ok.Lts as lts
-use Rattle.memory_device.proofs.rules.addr_ok.Reads as addr-ok-reads
-use Rattle.memory_device.proofs.rules.block_ok.Reads as block-ok-reads
-use Rattle.memory_device.proofs.rules.region_ok.Reads as region-ok-reads
-use Rattle.memory_device.proofs.rules.sizes_ok.Reads as sizes-ok-reads
 
 is-block : (c : tie.Then1) → blockOk (c .before .before .args .block) ≡ true
 is-block c = sym (c .before .block-ok .ensures) ∙ c .if1 .taken
@@ -20,28 +15,22 @@ is-block c = sym (c .before .block-ok .ensures) ∙ c .if1 .taken
 bounds : (c : tie.Then1) → (4096 ≤ c .before .before .args .block) × (c .before .before .args .block ≤ 2 ^ 30)
 bounds c = power-bounds _ 19 (omega arith) (is-block c)
 
--- src/rules.rt:63:8
 block-ok-requires : tie.Need-block-ok-requires
 block-ok-requires c κs = search needs
 
--- src/rules.rt:64:16
 region-ok-requires : tie.Need-region-ok-requires
 region-ok-requires c κs = omega (arith, bounds c)
 
--- src/rules.rt:65:16
 addr-ok-requires : tie.Need-addr-ok-requires
 addr-ok-requires c κs = omega (arith, bounds (c .before))
 
--- src/rules.rt:65:47
 sizes-ok-requires : tie.Need-sizes-ok-requires
 sizes-ok-requires c κs = omega (arith, bounds (c .before .before))
 
--- src/rules.rt:64:9
 returns : tie.Need-returns
 unfolding setupOk
 returns c = rw (is-block (c .before .before .before), c .before .before .region-ok .ensures, c .before .addr-ok .ensures, c .sizes-ok .ensures)
 
--- src/rules.rt:60:1
 returns-2 : tie.Need-returns-2
 unfolding setupOk
 returns-2 c = rw (sym (c .before .block-ok .ensures) ∙ c .if1 .left)

@@ -1,3 +1,4 @@
+-- `memory_device::rules::tables_ok` meets its contract. Assumes nothing.
 use Prim.Native.Nat.{_≤_}
 use native.Mathlib.Omega.{arith}
 use Rattle.memory_device.proofs.RuleLaws.{blocks-bound, blocks-mono, tables-two}
@@ -7,24 +8,16 @@ use mathlib.Core.Path.{_≡_, sym, ap₂, _∙_}
 use borrow.Author.Needs.{needs}
 use Rattle.memory_device.proofs.rules.tables_ok.Statement.{statement}
 use Rattle.memory_device.proofs.rules.tables_ok.Tie as tie
-use Rattle.memory_device.proofs.rules.tables_ok.Reads as reads
-use Rattle.memory_device.proofs.rules.tables_ok.Lts as lts
-use Rattle.memory_device.proofs.table.only_below.Reads as only-below-reads
-use Rattle.memory_device.proofs.table.part_of.Reads as part-of-reads
 
--- src/rules.rt:81:19
 div-blocks : tie.Need-div-blocks
 div-blocks c = search needs
 
--- src/rules.rt:82:5
 only-below-requires : tie.Need-only-below-requires
 only-below-requires c κs = let s = c .before .before .before in blocks-bound _ _ 1024 (s .pre .0) (omega (arith, s .pre .1, s .pre .2))
 
--- src/rules.rt:82:35
 part-of-requires : tie.Need-part-of-requires
 part-of-requires c κs = search needs
 
--- src/rules.rt:75:1
 returns : tie.Need-returns
 unfolding tablesOk
 returns c = let s = c .before .before .before .before .before in

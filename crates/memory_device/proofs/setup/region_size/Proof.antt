@@ -1,3 +1,4 @@
+-- `memory_device::setup::region_size` meets its contract. Assumes nothing.
 use Rattle.memory_device.proofs.RuleLaws.{same-end}
 use Rattle.memory_device.proofs.SetUpLaws.{managed-here, managed-not}
 use Rattle.memory_device.specs.SetUp.{managedIn}
@@ -8,8 +9,6 @@ use mathlib.Core.Path.{_≡_, refl, sym, ap, _∙_}
 use borrow.Author.Needs.{needs}
 use Rattle.memory_device.proofs.setup.region_size.Statement.{statement}
 use Rattle.memory_device.proofs.setup.region_size.Tie as tie
-use Rattle.memory_device.proofs.setup.region_size.Reads as reads
-use Rattle.memory_device.proofs.setup.region_size.Lts as lts
 
 abbrev Inv-loop : tie.InvT-loop
 Inv-loop map count size₀ n₀ size n = (n ≤ count) × (size ≡ managedIn map n)
@@ -17,33 +16,26 @@ Inv-loop map count size₀ n₀ size n = (n ≤ count) × (size ≡ managedIn ma
 abbrev μ-loop : tie.MeasureT-loop
 μ-loop map count size₀ n₀ size n = count - n
 
--- src/setup.rt:41:5
 loop-holds : tie.Need-loop-holds Inv-loop μ-loop
 unfolding managedIn
 loop-holds c = (omega arith, refl)
 
--- src/setup.rt:42:22
 mul-region : tie.Need-mul-region Inv-loop μ-loop
 mul-region c = search needs
 
--- src/setup.rt:42:22
 element-copy-out-region : tie.Need-element-copy-out-region Inv-loop μ-loop
 element-copy-out-region c = search needs
 
--- src/setup.rt:41:9
 add-n : tie.Need-add-n Inv-loop μ-loop
 add-n c = search needs
 
--- src/setup.rt:41:5
 loop-less : tie.Need-loop-less Inv-loop μ-loop
 loop-less c = search needs
 
--- src/setup.rt:41:5
 loop-again : tie.Need-loop-again Inv-loop μ-loop
 loop-again c = let m = c .before .before .before .before .before .args .t1 in
     (omega (arith, c .before .before .before .loop-test .taken), ⊎-elim (λ w. w .1 ∙ sym (managed-here m _ (w .0 .taken))) (λ w. w .1 ∙ c .before .before .before .before .loop .inv .1 ∙ sym (managed-not m _ (w .0 .left))) (c .if1 .came))
 
--- src/setup.rt:35:1
 returns : tie.Need-returns Inv-loop μ-loop
 returns c = c .before .loop .inv .1 ∙ ap (managedIn (c .before .before .args .t1)) (sym (same-end (c .loop-test .left) (c .before .loop .inv .0)))
 

@@ -1,3 +1,4 @@
+-- `memory_device::setup::set_up` meets its contract. Assumes nothing.
 use Rattle.memory_device.proofs.SetUpLaws.{set-up-done, set-up-values, set-up-refused}
 use Rattle.memory_device.specs.SetUp.{regionSize}
 use Rattle.memory_device.specs.Device.{setupOk}
@@ -7,13 +8,6 @@ use mathlib.Core.Path.{_≡_, refl, sym, ap, _∙_}
 use borrow.Author.Needs.{needs}
 use Rattle.memory_device.proofs.setup.set_up.Statement.{statement}
 use Rattle.memory_device.proofs.setup.set_up.Tie as tie
-use Rattle.memory_device.proofs.setup.set_up.Reads as reads
-use Rattle.memory_device.proofs.setup.set_up.Lts as lts
-use Rattle.memory_device.proofs.rules.setup_ok.Reads as setup-ok-reads
-use Rattle.memory_device.proofs.setup.no_device.Reads as no-device-reads
-use Rattle.memory_device.proofs.setup.region_size.Reads as region-size-reads
-use Rattle.region_map.proofs.check.accepts.Reads as accepts-reads
-use Rattle.region_map.proofs.check.check_map.Reads as check-map-reads
 
 ok : (c : tie.Then1) → Accepted (c .before .before .before .args .map) (c .before .before .before .args .memory-length)
 ok c = is-accepted _ _ _ (c .before .before .check-map .ensures) (sym (c .before .accepts .ensures) ∙ c .if1 .taken)
@@ -23,41 +17,32 @@ ruled : (c : tie.After-setup-ok) → let a = c .before .before .before .before .
     c .setup-ok .result ≡ setupOk (a .values .«block_size») (a .values .addr) (regionSize (a .map)) (a .values .«usable_size») (a .values .«requested_size»)
 ruled c = rw (← c .before .region-size .ensures) (c .setup-ok .ensures)
 
--- src/setup.rt:68:9
 check-map-requires : tie.Need-check-map-requires
 check-map-requires c κs = search needs
 
--- src/setup.rt:69:8
 accepts-requires : tie.Need-accepts-requires
 accepts-requires c κs = search needs
 
--- src/setup.rt:70:13
 region-size-requires : tie.Need-region-size-requires
 region-size-requires c κs = accepted-sound _ _ (ok c) .count
 
--- src/setup.rt:71:12
 setup-ok-requires : tie.Need-setup-ok-requires
 setup-ok-requires c κs = search needs
 
--- src/setup.rt:78:13
 returns : tie.Need-returns
 returns c = let t = c .before .before .before in
     let passed = passed-reply (reply (t .before .before .check-map .result)) (sym (t .before .accepts .ensures) ∙ t .if1 .taken) in
     rw (passed, c .before .before .region-size .ensures) (set-up-done _ _ _ (ok t) (sym (ruled (c .before)) ∙ c .if2 .taken))
 
--- src/setup.rt:93:21
 no-device-requires : tie.Need-no-device-requires
 no-device-requires c κs = search needs
 
--- src/setup.rt:91:9
 returns-2 : tie.Need-returns-2
 returns-2 c = rw (c .no-device .ensures) (set-up-values _ _ _ (ok (c .before .before .before .before)) (sym (ruled (c .before .before)) ∙ c .before .if2 .left))
 
--- src/setup.rt:98:17
 no-device-requires-2 : tie.Need-no-device-requires-2
 no-device-requires-2 c κs = search needs
 
--- src/setup.rt:65:1
 returns-3 : tie.Need-returns-3
 returns-3 c = rw (c .no-device2 .ensures) (set-up-refused _ _ _ _ (c .before .before .before .check-map .ensures) (sym (c .before .before .accepts .ensures) ∙ c .before .if1 .left))
 

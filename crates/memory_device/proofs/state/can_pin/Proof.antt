@@ -1,3 +1,4 @@
+-- `memory_device::state::can_pin` meets its contract. Assumes nothing.
 use Rattle.memory_device.proofs.RuleLaws.{blocks-bound, and-fst}
 use Rattle.memory_device.specs.Table.{bitAt}
 use borrow.Author.Tests.{ltb-true}
@@ -10,23 +11,16 @@ use mathlib.Core.Path.{_≡_, refl, sym, ap, _∙_}
 use borrow.Author.Needs.{needs}
 use Rattle.memory_device.proofs.state.can_pin.Statement.{statement}
 use Rattle.memory_device.proofs.state.can_pin.Tie as tie
-use Rattle.memory_device.proofs.state.can_pin.Reads as reads
-use Rattle.memory_device.proofs.state.can_pin.Lts as lts
-use Rattle.memory_device.proofs.state.is_in.Reads as is-in-reads
 
--- src/state.rt:71:19
 div-blocks : tie.Need-div-blocks
 div-blocks c = search needs
 
--- src/state.rt:72:21
 is-in-requires : tie.Need-is-in-requires
 is-in-requires c κs = search needs
 
--- src/state.rt:72:42
 is-in-requires-2 : tie.Need-is-in-requires-2
 is-in-requires-2 c κs = search needs
 
--- src/state.rt:64:1
 returns : tie.Need-returns
 returns c = let s = c .before .before .before .before .before in
     let d = s .args .device in

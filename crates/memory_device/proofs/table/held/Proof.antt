@@ -1,3 +1,4 @@
+-- `memory_device::table::held` meets its contract. Assumes nothing.
 use mathlib.Core.Path.{_≡_, refl, ap, _∙_, sym}
 use mathlib.Core.Logic.{⊎-elim}
 use Prim.Native.Nat.{_+_, _-_, _≤_}
@@ -8,9 +9,6 @@ use Rattle.memory_device.specs.Table.{bitAt, heldIn}
 use Rattle.memory_device.proofs.TableLaws.{held-next, counted, passed}
 use Rattle.memory_device.proofs.table.held.Statement.{statement}
 use Rattle.memory_device.proofs.table.held.Tie as tie
-use Rattle.memory_device.proofs.table.held.Reads as reads
-use Rattle.memory_device.proofs.table.held.Lts as lts
-use Rattle.memory_device.proofs.table.is_set.Reads as is-set-reads
 
 abbrev Inv-loop : tie.InvT-loop
 Inv-loop words from n count₀ i₀ count i = (i ≤ n) × (count ≡ heldIn words from i) × (count ≤ i)
@@ -18,32 +16,25 @@ Inv-loop words from n count₀ i₀ count i = (i ≤ n) × (count ≡ heldIn wor
 abbrev μ-loop : tie.MeasureT-loop
 μ-loop words from n count₀ i₀ count i = n - i
 
--- src/table.rt:43:5
 loop-holds : tie.Need-loop-holds Inv-loop μ-loop
 unfolding heldIn
 loop-holds c = (search needs, refl, search needs)
 
--- src/table.rt:44:26
 add-is-set : tie.Need-add-is-set Inv-loop μ-loop
 add-is-set c = search needs
 
--- src/table.rt:44:12
 is-set-requires : tie.Need-is-set-requires Inv-loop μ-loop
 is-set-requires c κs = search needs
 
--- src/table.rt:45:13
 add-count : tie.Need-add-count Inv-loop μ-loop
 add-count c = search needs
 
--- src/table.rt:43:9
 add-i : tie.Need-add-i Inv-loop μ-loop
 add-i c = search needs
 
--- src/table.rt:43:5
 loop-less : tie.Need-loop-less Inv-loop μ-loop
 loop-less c = search needs
 
--- src/table.rt:43:5
 loop-again : tie.Need-loop-again Inv-loop μ-loop
 loop-again c =
     let a = c .before .before .before .before .args in
@@ -55,7 +46,6 @@ loop-again c =
     (λ w. (omega arith, w .1 ∙ passed (bitAt (a .words) (a .from + i)) _ _ (sym set ∙ w .0 .left) (inv .1) ∙ sym (held-next (a .words) (a .from) i), omega arith))
     (c .if1 .came)
 
--- src/table.rt:38:1
 returns : tie.Need-returns Inv-loop μ-loop
 returns c =
     let a = c .before .before .args in

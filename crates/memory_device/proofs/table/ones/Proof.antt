@@ -1,3 +1,4 @@
+-- `memory_device::table::ones` meets its contract. Assumes nothing.
 use mathlib.Core.Path.{_≡_, refl, ap, _∙_, sym}
 use mathlib.Core.Logic.{⊎-elim}
 use Prim.Native.Nat.{_-_, _/_, _%_, _^_, _≤_}
@@ -8,8 +9,6 @@ use Rattle.memory_device.specs.Table.{bitOf, bitsIn}
 use Rattle.memory_device.proofs.TableLaws.{bits-next, counted, passed}
 use Rattle.memory_device.proofs.table.ones.Statement.{statement}
 use Rattle.memory_device.proofs.table.ones.Tie as tie
-use Rattle.memory_device.proofs.table.ones.Reads as reads
-use Rattle.memory_device.proofs.table.ones.Lts as lts
 
 abbrev Inv-loop : tie.InvT-loop
 Inv-loop word count₀ k₀ count k = (k ≤ 64) × (count ≡ bitsIn word k) × (count ≤ k)
@@ -17,28 +16,22 @@ Inv-loop word count₀ k₀ count k = (k ≤ 64) × (count ≡ bitsIn word k) ×
 abbrev μ-loop : tie.MeasureT-loop
 μ-loop word count₀ k₀ count k = 64 - k
 
--- src/table.rt:56:5
 loop-holds : tie.Need-loop-holds Inv-loop μ-loop
 unfolding bitsIn
 loop-holds c = (search needs, refl, search needs)
 
--- src/table.rt:57:13
 shr-if1 : tie.Need-shr-if1 Inv-loop μ-loop
 shr-if1 c = search needs
 
--- src/table.rt:58:13
 add-count : tie.Need-add-count Inv-loop μ-loop
 add-count c = search needs
 
--- src/table.rt:56:9
 add-k : tie.Need-add-k Inv-loop μ-loop
 add-k c = search needs
 
--- src/table.rt:56:5
 loop-less : tie.Need-loop-less Inv-loop μ-loop
 loop-less c = search needs
 
--- src/table.rt:56:5
 loop-again : tie.Need-loop-again Inv-loop μ-loop
 loop-again c =
     let word = c .before .before .before .args .word in
@@ -49,7 +42,6 @@ loop-again c =
     (λ w. (omega arith, w .1 ∙ passed (bitOf word k) _ _ (ne-eqb (word / 2 ^ k % 2) 1 (w .0 .left)) (inv .1) ∙ sym (bits-next word k), omega arith))
     (c .if1 .came)
 
--- src/table.rt:52:1
 returns : tie.Need-returns Inv-loop μ-loop
 returns c =
     let e : c .before .loop .k ≡ 64 = omega arith in

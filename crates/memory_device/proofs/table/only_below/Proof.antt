@@ -1,3 +1,4 @@
+-- `memory_device::table::only_below` meets its contract. Assumes nothing.
 use mathlib.Core.Path.{_≡_, _∙_, sym}
 use mathlib.Core.Bool.{true, not, _||_}
 use mathlib.Core.Logic.{⊎-elim}
@@ -12,8 +13,6 @@ use Rattle.memory_device.specs.Table.{bitAt}
 use Rattle.memory_device.proofs.TableLaws.{all-of, more-words, word-low-all, word-below-all, word-high-not}
 use Rattle.memory_device.proofs.table.only_below.Statement.{statement}
 use Rattle.memory_device.proofs.table.only_below.Tie as tie
-use Rattle.memory_device.proofs.table.only_below.Reads as reads
-use Rattle.memory_device.proofs.table.only_below.Lts as lts
 
 abbrev Inv-loop : tie.InvT-loop
 Inv-loop n words i₀ i = (i ≤ 16) × ((b : ℕ) → b < i * 64 → (not (bitAt words b) || ltb b n) ≡ true)
@@ -25,57 +24,45 @@ abbrev μ-loop : tie.MeasureT-loop
 fits : (s : tie.Start Inv-loop μ-loop) (i : ℕ) → getD (s .args .t1) i 0 < 2 ^ 64
 fits s i = elem-fits w64 w64 (s .args .t1) (s .good .0 .0) i (s .good .0 .1 .1) tt .fits
 
--- src/table.rt:80:5
 loop-holds : tie.Need-loop-holds Inv-loop μ-loop
 loop-holds c = (search needs, λ b p. absurd (omega arith))
 
--- src/table.rt:81:20
 mul-word : tie.Need-mul-word Inv-loop μ-loop
 mul-word c = search needs
 
--- src/table.rt:81:20
 array-read-word : tie.Need-array-read-word Inv-loop μ-loop
 array-read-word c = search needs
 
--- src/table.rt:82:21
 mul-start : tie.Need-mul-start Inv-loop μ-loop
 mul-start c = search needs
 
--- src/table.rt:85:17
 returns : tie.Need-returns Inv-loop μ-loop
 returns c =
     let s = c .before .before .before .before in
     let i = c .before .before .before .loop .i in
     sym (word-high-not (s .args .t1) (s .args .n) i 0 (omega arith) (λ k p. omega arith) (c .before .before .loop-test .taken) (fits s i) (λ e. c .if2 .taken (sym (div-one (getD (s .args .t1) i 0)) ∙ e)))
 
--- src/table.rt:87:19
 sub-if3 : tie.Need-sub-if3 Inv-loop μ-loop
 sub-if3 c = search needs
 
--- src/table.rt:88:22
 sub-k : tie.Need-sub-k Inv-loop μ-loop
 sub-k c = search needs
 
--- src/table.rt:89:17
 shr-if4 : tie.Need-shr-if4 Inv-loop μ-loop
 shr-if4 c = search needs
 
--- src/table.rt:90:17
 returns-2 : tie.Need-returns-2 Inv-loop μ-loop
 returns-2 c =
     let s = c .before .before .before .before .before in
     let i = c .before .before .before .before .loop .i in
     sym (word-high-not (s .args .t1) (s .args .n) i (s .args .n - i * 64) (omega arith) (λ k p. omega arith) (c .before .before .before .loop-test .taken) (fits s i) (c .if4 .taken))
 
--- src/table.rt:80:9
 add-i : tie.Need-add-i Inv-loop μ-loop
 add-i c = search needs
 
--- src/table.rt:80:5
 loop-less : tie.Need-loop-less Inv-loop μ-loop
 loop-less c = search needs
 
--- src/table.rt:80:5
 loop-again : tie.Need-loop-again Inv-loop μ-loop
 loop-again c =
     let a = c .before .before .before .args in
@@ -90,7 +77,6 @@ loop-again c =
           (c .if1 .came)),
     )
 
--- src/table.rt:76:1
 returns-3 : tie.Need-returns-3 Inv-loop μ-loop
 returns-3 c =
     let a = c .before .before .args in

@@ -1,3 +1,4 @@
+-- `memory_device::table::part_of` meets its contract. Assumes nothing.
 use mathlib.Core.Path.{_≡_, sym}
 use mathlib.Core.Bool.{true, not, _||_}
 use Prim.Native.Nat.{ℕ, _-_, _*_, _^_, _≤_, _<_}
@@ -9,8 +10,6 @@ use Rattle.memory_device.specs.Table.{bitAt}
 use Rattle.memory_device.proofs.TableLaws.{all-of, more-words, word-part-all, word-part-not}
 use Rattle.memory_device.proofs.table.part_of.Statement.{statement}
 use Rattle.memory_device.proofs.table.part_of.Tie as tie
-use Rattle.memory_device.proofs.table.part_of.Reads as reads
-use Rattle.memory_device.proofs.table.part_of.Lts as lts
 
 abbrev Inv-loop : tie.InvT-loop
 Inv-loop words whole i₀ i = (i ≤ 16) × ((b : ℕ) → b < i * 64 → (not (bitAt words b) || bitAt whole b) ≡ true)
@@ -25,49 +24,39 @@ fits s = (
   λ i. elem-fits w64 w64 (s .args .t2) (s .good .1 .0 .0) i (s .good .1 .0 .1 .1) tt .fits,
 )
 
--- src/table.rt:101:5
 loop-holds : tie.Need-loop-holds Inv-loop μ-loop
 loop-holds c = (search needs, λ b p. absurd (omega arith))
 
--- src/table.rt:102:20
 mul-word : tie.Need-mul-word Inv-loop μ-loop
 mul-word c = search needs
 
--- src/table.rt:102:20
 array-read-word : tie.Need-array-read-word Inv-loop μ-loop
 array-read-word c = search needs
 
--- src/table.rt:103:20
 mul-if1 : tie.Need-mul-if1 Inv-loop μ-loop
 mul-if1 c = search needs
 
--- src/table.rt:103:20
 array-read-if1 : tie.Need-array-read-if1 Inv-loop μ-loop
 array-read-if1 c = search needs
 
--- src/table.rt:104:13
 returns : tie.Need-returns Inv-loop μ-loop
 returns c =
     let s = c .before .before .before in
     let i = c .before .before .loop .i in
     sym (word-part-not (s .args .t1) (s .args .t2) i (c .before .loop-test .taken) (fits s .0 i) (fits s .1 i) (c .if1 .taken))
 
--- src/table.rt:101:9
 add-i : tie.Need-add-i Inv-loop μ-loop
 add-i c = search needs
 
--- src/table.rt:101:5
 loop-less : tie.Need-loop-less Inv-loop μ-loop
 loop-less c = search needs
 
--- src/table.rt:101:5
 loop-again : tie.Need-loop-again Inv-loop μ-loop
 loop-again c =
     let a = c .before .before .before .args in
     let i = c .before .before .loop .i in
     (omega arith, more-words (λ b. not (bitAt (a .t1) b) || bitAt (a .t2) b) i (c .before .before .loop .inv .1) (word-part-all (a .t1) (a .t2) i (c .if1 .left)))
 
--- src/table.rt:98:1
 returns-2 : tie.Need-returns-2 Inv-loop μ-loop
 returns-2 c =
     let a = c .before .before .args in

@@ -1,3 +1,4 @@
+-- `memory_device::table::with_run` meets its contract. Assumes nothing.
 use mathlib.Core.Path.{ap, _∙_, sym, subst}
 use mathlib.Core.Bool.{not}
 use mathlib.Core.Logic.{⊎-elim}
@@ -11,9 +12,6 @@ use mir.Syntax.{w64}
 use Rattle.memory_device.proofs.TableLaws.{Run, run-none, run-keep, run-turn, run-end, same-end, shl-one, differs, agrees}
 use Rattle.memory_device.proofs.table.with_run.Statement.{statement}
 use Rattle.memory_device.proofs.table.with_run.Tie as tie
-use Rattle.memory_device.proofs.table.with_run.Reads as reads
-use Rattle.memory_device.proofs.table.with_run.Lts as lts
-use Rattle.memory_device.proofs.table.is_set.Reads as is-set-reads
 
 abbrev Inv-loop : tie.InvT-loop
 Inv-loop from n on table₀ i₀ table i = (i ≤ n) × Run table₀ table from i on
@@ -21,47 +19,36 @@ Inv-loop from n on table₀ i₀ table i = (i ≤ n) × Run table₀ table from 
 abbrev μ-loop : tie.MeasureT-loop
 μ-loop from n on table₀ i₀ table i = n - i
 
--- src/table.rt:24:5
 loop-holds : tie.Need-loop-holds Inv-loop μ-loop
 loop-holds c = (search needs, run-none (c .args .words) (c .args .from) (c .args .on) (c .good .0 .1 .0 .1) (λ i p. elem-fits w64 w64 (c .args .words) (c .good .0 .0) i (c .good .0 .1 .1) tt .fits))
 
--- src/table.rt:25:17
 add-b : tie.Need-add-b Inv-loop μ-loop
 add-b c = search needs
 
--- src/table.rt:26:12
 is-set-requires : tie.Need-is-set-requires Inv-loop μ-loop
 is-set-requires c κs = search needs
 
--- src/table.rt:28:24
 mul-word : tie.Need-mul-word Inv-loop μ-loop
 mul-word c = search needs
 
--- src/table.rt:28:24
 array-read-word : tie.Need-array-read-word Inv-loop μ-loop
 array-read-word c = search needs
 
--- src/table.rt:30:33
 shl-table : tie.Need-shl-table Inv-loop μ-loop
 shl-table c = search needs
 
--- src/table.rt:30:13
 mul-table : tie.Need-mul-table Inv-loop μ-loop
 mul-table c = search needs
 
--- src/table.rt:30:13
 array-write-table : tie.Need-array-write-table Inv-loop μ-loop
 array-write-table c = search needs
 
--- src/table.rt:32:9
 add-i : tie.Need-add-i Inv-loop μ-loop
 add-i c = search needs
 
--- src/table.rt:24:5
 loop-less : tie.Need-loop-less Inv-loop μ-loop
 loop-less c = search needs
 
--- src/table.rt:24:5
 loop-again : tie.Need-loop-again Inv-loop μ-loop
 loop-again c =
     let a = c .before .before .before .before .args in
@@ -81,7 +68,6 @@ loop-again c =
     (c .if1 .came) in
     (omega arith, whole)
 
--- src/table.rt:18:1
 returns : tie.Need-returns Inv-loop μ-loop
 returns c =
     let a = c .before .before .args in

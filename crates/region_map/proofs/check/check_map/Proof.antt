@@ -1,3 +1,4 @@
+-- `region_map::check::check_map` meets its contract. Assumes nothing.
 use Rattle.region_map.specs.declared.clash.PairRule.the-variants as pair
 use Rattle.region_map.specs.declared.fault.NodeRule.the-variants as node
 use Rattle.region_map.proofs.Found.{lowest-passed, lowest-found, pair-passed, pair-found}
@@ -10,10 +11,6 @@ use borrow.Author.Tests.{eq-eqb, ne-eqb, lt-ltb, le-ltb}
 use borrow.Author.Needs.{needs}
 use Rattle.region_map.proofs.check.check_map.Statement.{statement}
 use Rattle.region_map.proofs.check.check_map.Tie as tie
-use Rattle.region_map.proofs.check.check_map.Reads as reads
-use Rattle.region_map.proofs.check.check_map.Lts as lts
-use Rattle.region_map.proofs.search.first_pair.Reads as first-pair-reads
-use Rattle.region_map.proofs.search.lowest_fault.Reads as lowest-fault-reads
 
 -- rule 4 lets the map pass
 passed-1 : (c : tie.After-enum-told) → lowest 4 (fault node.Kind (c .before .before .before .before .before .args .map) (c .before .before .before .before .before .args .memory-length)) (c .before .before .before .before .before .args .map .count) ≡ accepted
@@ -47,25 +44,20 @@ passed-7 c = pair-passed _ _ _ (c .before .before .first-pair3 .ensures) (c .enu
 passed-8 : (c : tie.After-enum-told8) → firstPair 11 (clash pair.Siblings (c .before .before .before .before .before .before .before .before .before .before .before .before .before .before .before .before .before .before .before .before .before .before .before .before .before .before .args .map)) (c .before .before .before .before .before .before .before .before .before .before .before .before .before .before .before .before .before .before .before .before .before .before .before .before .before .before .args .map .count) ≡ accepted
 passed-8 c = pair-passed _ _ _ (c .before .before .first-pair4 .ensures) (c .enum-told8 .given .1) 11
 
--- src/check.rt:33:9
 returns : tie.Need-returns
 unfolding judged
 returns c = simp (eq-eqb _ _ (c .if1 .taken))
 
--- src/check.rt:36:9
 returns-2 : tie.Need-returns-2
 unfolding judged
 returns-2 c = simp (ne-eqb _ _ (c .before .if1 .left), lt-ltb _ _ (c .if2 .taken))
 
--- src/check.rt:38:30
 lowest-fault-requires : tie.Need-lowest-fault-requires
 lowest-fault-requires c κs = search needs
 
--- src/check.rt:38:25
 enum-known-n : tie.Need-enum-known-n
 enum-known-n c = search needs
 
--- src/check.rt:39:9
 returns-3 : tie.Need-returns-3
 unfolding judged
 returns-3 c = let now-at = c .before .before .before in
@@ -75,15 +67,12 @@ returns-3 c = let now-at = c .before .before .before in
 enum-told : tie.Need-enum-told
 enum-told c = search needs
 
--- src/check.rt:41:30
 lowest-fault-requires-2 : tie.Need-lowest-fault-requires-2
 lowest-fault-requires-2 c κs = search needs
 
--- src/check.rt:41:25
 enum-known-n-2 : tie.Need-enum-known-n-2
 enum-known-n-2 c = search needs
 
--- src/check.rt:42:9
 returns-4 : tie.Need-returns-4
 unfolding judged
 returns-4 c = let now-at = c .before .before .before in
@@ -94,15 +83,12 @@ returns-4 c = let now-at = c .before .before .before in
 enum-told-2 : tie.Need-enum-told-2
 enum-told-2 c = search needs
 
--- src/check.rt:44:30
 lowest-fault-requires-3 : tie.Need-lowest-fault-requires-3
 lowest-fault-requires-3 c κs = search needs
 
--- src/check.rt:44:25
 enum-known-n-3 : tie.Need-enum-known-n-3
 enum-known-n-3 c = search needs
 
--- src/check.rt:45:9
 returns-5 : tie.Need-returns-5
 unfolding judged
 returns-5 c = let now-at = c .before .before .before in
@@ -114,15 +100,12 @@ returns-5 c = let now-at = c .before .before .before in
 enum-told-3 : tie.Need-enum-told-3
 enum-told-3 c = search needs
 
--- src/check.rt:47:30
 lowest-fault-requires-4 : tie.Need-lowest-fault-requires-4
 lowest-fault-requires-4 c κs = search needs
 
--- src/check.rt:47:25
 enum-known-n-4 : tie.Need-enum-known-n-4
 enum-known-n-4 c = search needs
 
--- src/check.rt:48:9
 returns-6 : tie.Need-returns-6
 unfolding judged
 returns-6 c = let now-at = c .before .before .before in
@@ -135,15 +118,12 @@ returns-6 c = let now-at = c .before .before .before in
 enum-told-4 : tie.Need-enum-told-4
 enum-told-4 c = search needs
 
--- src/check.rt:50:32
 first-pair-requires : tie.Need-first-pair-requires
 first-pair-requires c κs = search needs
 
--- src/check.rt:50:24
 enum-known-i : tie.Need-enum-known-i
 enum-known-i c = search needs
 
--- src/check.rt:51:9
 returns-7 : tie.Need-returns-7
 unfolding judged
 returns-7 c = let now-at = c .before .before .before in
@@ -157,15 +137,12 @@ returns-7 c = let now-at = c .before .before .before in
 enum-told-5 : tie.Need-enum-told-5
 enum-told-5 c = search needs
 
--- src/check.rt:53:32
 first-pair-requires-2 : tie.Need-first-pair-requires-2
 first-pair-requires-2 c κs = search needs
 
--- src/check.rt:53:24
 enum-known-i-2 : tie.Need-enum-known-i-2
 enum-known-i-2 c = search needs
 
--- src/check.rt:54:9
 returns-8 : tie.Need-returns-8
 unfolding judged
 returns-8 c = let now-at = c .before .before .before in
@@ -180,15 +157,12 @@ returns-8 c = let now-at = c .before .before .before in
 enum-told-6 : tie.Need-enum-told-6
 enum-told-6 c = search needs
 
--- src/check.rt:56:32
 first-pair-requires-3 : tie.Need-first-pair-requires-3
 first-pair-requires-3 c κs = search needs
 
--- src/check.rt:56:24
 enum-known-i-3 : tie.Need-enum-known-i-3
 enum-known-i-3 c = search needs
 
--- src/check.rt:57:9
 returns-9 : tie.Need-returns-9
 unfolding judged
 returns-9 c = let now-at = c .before .before .before in
@@ -204,15 +178,12 @@ returns-9 c = let now-at = c .before .before .before in
 enum-told-7 : tie.Need-enum-told-7
 enum-told-7 c = search needs
 
--- src/check.rt:59:32
 first-pair-requires-4 : tie.Need-first-pair-requires-4
 first-pair-requires-4 c κs = search needs
 
--- src/check.rt:59:24
 enum-known-i-4 : tie.Need-enum-known-i-4
 enum-known-i-4 c = search needs
 
--- src/check.rt:60:9
 returns-10 : tie.Need-returns-10
 unfolding judged
 returns-10 c = let now-at = c .before .before .before in
@@ -229,7 +200,6 @@ returns-10 c = let now-at = c .before .before .before in
 enum-told-8 : tie.Need-enum-told-8
 enum-told-8 c = search needs
 
--- src/check.rt:28:1
 returns-11 : tie.Need-returns-11
 unfolding judged
 returns-11 c = let at-8 = c in

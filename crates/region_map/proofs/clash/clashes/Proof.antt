@@ -1,74 +1,53 @@
+-- `region_map::clash::clashes` meets its contract. Assumes nothing.
 use borrow.Author.Needs.{needs}
 use Rattle.region_map.proofs.clash.clashes.Statement.{statement}
 use Rattle.region_map.proofs.clash.clashes.Tie as tie
-use Rattle.region_map.proofs.clash.clashes.Reads as reads
-use Rattle.region_map.proofs.clash.clashes.Lts as lts
-use Rattle.region_map.proofs.clash.managed_clash.Reads as managed-clash-reads
-use Rattle.region_map.proofs.clash.memory_clash.Reads as memory-clash-reads
-use Rattle.region_map.proofs.clash.port_clash.Reads as port-clash-reads
-use Rattle.region_map.proofs.clash.sibling_clash.Reads as sibling-clash-reads
 
--- src/clash.rt:77:13
 mul-a : tie.Need-mul-a
 mul-a c = search needs
 
--- src/clash.rt:77:13
 element-copy-out-a : tie.Need-element-copy-out-a
 element-copy-out-a c = search needs
 
--- src/clash.rt:78:13
 mul-b : tie.Need-mul-b
 mul-b c = search needs
 
--- src/clash.rt:78:13
 element-copy-out-b : tie.Need-element-copy-out-b
 element-copy-out-b c = search needs
 
--- src/clash.rt:80:29
 enum-told : tie.Need-enum-told
 enum-told c = search needs
 
--- src/clash.rt:80:29
 memory-clash-requires : tie.Need-memory-clash-requires
 memory-clash-requires c κs = search needs
 
--- src/clash.rt:81:30
 enum-told-2 : tie.Need-enum-told-2
 enum-told-2 c = search needs
 
--- src/clash.rt:81:30
 managed-clash-requires : tie.Need-managed-clash-requires
 managed-clash-requires c κs = search needs
 
--- src/clash.rt:82:28
 enum-told-3 : tie.Need-enum-told-3
 enum-told-3 c = search needs
 
--- src/clash.rt:82:28
 port-clash-requires : tie.Need-port-clash-requires
 port-clash-requires c κs = search needs
 
--- src/clash.rt:83:45
 enum-told-4 : tie.Need-enum-told-4
 enum-told-4 c = search needs
 
--- src/clash.rt:83:31
 sibling-clash-requires : tie.Need-sibling-clash-requires
 sibling-clash-requires c κs = search needs
 
--- src/clash.rt:73:1
 returns : tie.Need-returns
 returns c = rw (c .before .enum-told .given .1) (c .memory-clash .ensures)
 
--- src/clash.rt:73:1
 returns-2 : tie.Need-returns-2
 returns-2 c = rw (c .before .enum-told2 .given .1) (c .managed-clash .ensures)
 
--- src/clash.rt:73:1
 returns-3 : tie.Need-returns-3
 returns-3 c = rw (c .before .enum-told3 .given .1) (c .port-clash .ensures)
 
--- src/clash.rt:73:1
 returns-4 : tie.Need-returns-4
 returns-4 c = rw (c .before .enum-told4 .given .1) (c .sibling-clash .ensures)
 

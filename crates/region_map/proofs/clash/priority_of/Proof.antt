@@ -1,15 +1,12 @@
+-- `region_map::clash::priority_of` meets its contract. Assumes nothing.
 use borrow.Author.Tests.{eq-eqb, ne-eqb}
 use borrow.Author.Needs.{needs}
 use Rattle.region_map.proofs.clash.priority_of.Statement.{statement}
 use Rattle.region_map.proofs.clash.priority_of.Tie as tie
-use Rattle.region_map.proofs.clash.priority_of.Reads as reads
-use Rattle.region_map.proofs.clash.priority_of.Lts as lts
 
--- src/clash.rt:31:1
 returns : tie.Need-returns
 returns c = simp (eq-eqb _ _ (c .if1 .taken))
 
--- src/clash.rt:31:1
 returns-2 : tie.Need-returns-2
 returns-2 c = simp (ne-eqb _ _ (c .if1 .left))
 

@@ -1,19 +1,15 @@
+-- `region_map::clash::share` meets its contract. Assumes nothing.
 use Rattle.region_map.proofs.Bools.{share-below, share-above}
 use borrow.Author.Needs.{needs}
 use Rattle.region_map.proofs.clash.share.Statement.{statement}
 use Rattle.region_map.proofs.clash.share.Tie as tie
-use Rattle.region_map.proofs.clash.share.Reads as reads
-use Rattle.region_map.proofs.clash.share.Lts as lts
 
--- src/clash.rt:25:17
 sub-result : tie.Need-sub-result
 sub-result c = search needs
 
--- src/clash.rt:25:9
 returns : tie.Need-returns
 returns c = share-below _ _ _ _ (c .if1 .taken)
 
--- src/clash.rt:21:1
 returns-2 : tie.Need-returns-2
 returns-2 c = share-above _ _ _ _ (c .if1 .left)
 

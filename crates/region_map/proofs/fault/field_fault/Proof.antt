@@ -1,27 +1,20 @@
+-- `region_map::fault::field_fault` meets its contract. Assumes nothing.
 use borrow.Author.Needs.{needs}
 use Rattle.region_map.proofs.fault.field_fault.Statement.{statement}
 use Rattle.region_map.proofs.fault.field_fault.Tie as tie
-use Rattle.region_map.proofs.fault.field_fault.Reads as reads
-use Rattle.region_map.proofs.fault.field_fault.Lts as lts
-use Rattle.region_map.proofs.fault.extra.Reads as extra-reads
 
--- src/fault.rt:42:16
 extra-requires : tie.Need-extra-requires
 extra-requires c κs = search needs
 
--- src/fault.rt:43:11
 extra-requires-2 : tie.Need-extra-requires-2
 extra-requires-2 c κs = search needs
 
--- src/fault.rt:44:11
 extra-requires-3 : tie.Need-extra-requires-3
 extra-requires-3 c κs = search needs
 
--- src/fault.rt:45:11
 extra-requires-4 : tie.Need-extra-requires-4
 extra-requires-4 c κs = search needs
 
--- src/fault.rt:37:1
 returns : tie.Need-returns
 returns c = cc
 

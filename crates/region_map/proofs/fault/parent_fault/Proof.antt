@@ -1,47 +1,37 @@
+-- `region_map::fault::parent_fault` meets its contract. Assumes nothing.
 use Rattle.region_map.specs.Fault.{parentFault}
 use borrow.Author.Tests.{eq-eqb, ne-eqb, le-leb, lt-leb}
 use borrow.Author.Needs.{needs}
 use Rattle.region_map.proofs.fault.parent_fault.Statement.{statement}
 use Rattle.region_map.proofs.fault.parent_fault.Tie as tie
-use Rattle.region_map.proofs.fault.parent_fault.Reads as reads
-use Rattle.region_map.proofs.fault.parent_fault.Lts as lts
 
--- src/fault.rt:53:17
 mul-field : tie.Need-mul-field
 mul-field c = search needs
 
--- src/fault.rt:53:9
 element-copy-out-field : tie.Need-element-copy-out-field
 element-copy-out-field c = search needs
 
--- src/fault.rt:55:9
 returns : tie.Need-returns
 unfolding parentFault
 returns c = simp (eq-eqb _ _ (c .if1 .taken))
 
--- src/fault.rt:57:18
 sub-parent : tie.Need-sub-parent
 sub-parent c = search needs
 
--- src/fault.rt:59:9
 returns-2 : tie.Need-returns-2
 unfolding parentFault
 returns-2 c = simp (ne-eqb _ _ (c .before .if1 .left), le-leb _ _ (c .if2 .taken))
 
--- src/fault.rt:62:9
 returns-3 : tie.Need-returns-3
 unfolding parentFault
 returns-3 c = simp (ne-eqb _ _ (c .before .before .if1 .left), lt-leb _ _ (c .before .if2 .left), le-leb _ _ (c .if3 .taken))
 
--- src/fault.rt:64:16
 mul-kind : tie.Need-mul-kind
 mul-kind c = search needs
 
--- src/fault.rt:64:9
 element-copy-out-kind : tie.Need-element-copy-out-kind
 element-copy-out-kind c = search needs
 
--- src/fault.rt:49:1
 returns-4 : tie.Need-returns-4
 unfolding parentFault
 returns-4 c = simp (ne-eqb _ _ (c .before .before .if1 .left), lt-leb _ _ (c .before .if2 .left), lt-leb _ _ (c .if3 .left))

@@ -1,3 +1,4 @@
+-- `region_map::fault::sum_over` meets its contract. Assumes nothing.
 use Prim.Native.Nat.{_+_}
 use native.Mathlib.Omega.{arith}
 use borrow.Author.Tests.{lt-ltb}
@@ -6,14 +7,10 @@ use Rattle.region_map.proofs.Bools.{sum-over}
 use borrow.Author.Needs.{needs}
 use Rattle.region_map.proofs.fault.sum_over.Statement.{statement}
 use Rattle.region_map.proofs.fault.sum_over.Tie as tie
-use Rattle.region_map.proofs.fault.sum_over.Reads as reads
-use Rattle.region_map.proofs.fault.sum_over.Lts as lts
 
--- src/fault.rt:94:9
 returns : tie.Need-returns
 returns c = let a = c .before .args in sym (lt-ltb (a .limit) (a .a + a .b) (omega arith))
 
--- src/fault.rt:90:1
 returns-2 : tie.Need-returns-2
 returns-2 c = sum-over _ _ _ (c .if1 .left)
 

@@ -1,23 +1,18 @@
+-- `region_map::flat::backing_of` meets its contract. Assumes nothing.
 use borrow.Author.Tests.{eq-eqb, ne-eqb}
 use borrow.Author.Needs.{needs}
 use Rattle.region_map.proofs.flat.backing_of.Statement.{statement}
 use Rattle.region_map.proofs.flat.backing_of.Tie as tie
-use Rattle.region_map.proofs.flat.backing_of.Reads as reads
-use Rattle.region_map.proofs.flat.backing_of.Lts as lts
 
--- src/flat.rt:98:18
 mul-region : tie.Need-mul-region
 mul-region c = search needs
 
--- src/flat.rt:98:18
 element-copy-out-region : tie.Need-element-copy-out-region
 element-copy-out-region c = search needs
 
--- src/flat.rt:101:9
 returns : tie.Need-returns
 returns c = simp (eq-eqb _ _ (c .if1 .taken))
 
--- src/flat.rt:94:1
 returns-2 : tie.Need-returns-2
 returns-2 c = simp (ne-eqb _ _ (c .if1 .left))
 

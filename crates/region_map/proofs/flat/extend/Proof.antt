@@ -1,3 +1,4 @@
+-- `region_map::flat::extend` meets its contract. Assumes nothing.
 use Rattle.region_map.specs.Span.{Indexed}
 use mathlib.Core.Path.{subst}
 use borrow.Author.Needs.{needs}
@@ -5,28 +6,19 @@ use Rattle.region_map.specs.Flatten.{backingOf, entries}
 use Rattle.region_map.proofs.ViewLaws.{step-hole, step-leaf}
 use Rattle.region_map.proofs.flat.extend.Statement.{statement}
 use Rattle.region_map.proofs.flat.extend.Tie as tie
-use Rattle.region_map.proofs.flat.extend.Reads as reads
-use Rattle.region_map.proofs.flat.extend.Lts as lts
-use Rattle.region_map.proofs.flat.push_range.Reads as push-range-reads
-use Rattle.region_map.proofs.flat.backing_of.Reads as backing-of-reads
 
--- src/flat.rt:152:25
 enum-told : tie.Need-enum-told
 enum-told c = search needs
 
--- src/flat.rt:156:24
 enum-known-answer : tie.Need-enum-known-answer
 enum-known-answer c = search needs
 
--- src/flat.rt:157:17
 backing-of-requires : tie.Need-backing-of-requires
 backing-of-requires c κs = subst Indexed (c .before .answer .given .1) (c .before .before .before .pre .1)
 
--- src/flat.rt:158:13
 push-range-requires : tie.Need-push-range-requires
 push-range-requires c κs = search needs
 
--- src/flat.rt:147:1
 returns : tie.Need-returns
 returns c = (
   step-hole (c .before .before .args .v) (search needs) (backingOf (c .before .before .args .map)) (c .before .before .args .first .0) (c .before .before .args .last .0)
@@ -34,7 +26,6 @@ returns c = (
   λ b. b,
 )
 
--- src/flat.rt:147:1
 returns-2 : tie.Need-returns-2
 returns-2 c = (
   step-leaf (backingOf (c .before .before .before .before .before .args .map)) (entries (c .before .before .before .before .before .args .v)) (c .before .before .before .before .before .args .first)

@@ -1,37 +1,29 @@
+-- `region_map::flat::goes_on` meets its contract. Assumes nothing.
 use mathlib.Core.Path.{_≡_, refl, sym, _∙_}
 use native.Mathlib.Omega.{arith}
 use borrow.Author.Needs.{needs}
 use Rattle.region_map.proofs.RangeTests.{off-joins, joins-last}
 use Rattle.region_map.proofs.flat.goes_on.Statement.{statement}
 use Rattle.region_map.proofs.flat.goes_on.Tie as tie
-use Rattle.region_map.proofs.flat.goes_on.Reads as reads
-use Rattle.region_map.proofs.flat.goes_on.Lts as lts
 
--- src/flat.rt:53:9
 returns : tie.Need-returns
 returns c = sym (off-joins _ _ (λ j. omega (arith, j .next, j .order, j .region, j .offset)))
 
--- src/flat.rt:55:8
 sub-if2 : tie.Need-sub-if2
 sub-if2 c = search needs
 
--- src/flat.rt:56:9
 returns-2 : tie.Need-returns-2
 returns-2 c = sym (off-joins _ _ (λ j. omega (arith, j .next, j .order, j .region, j .offset)))
 
--- src/flat.rt:59:9
 returns-3 : tie.Need-returns-3
 returns-3 c = sym (off-joins _ _ (λ j. omega (arith, j .next, j .order, j .region, j .offset)))
 
--- src/flat.rt:62:9
 returns-4 : tie.Need-returns-4
 returns-4 c = sym (off-joins _ _ (λ j. omega (arith, j .next, j .order, j .region, j .offset)))
 
--- src/flat.rt:65:9
 returns-5 : tie.Need-returns-5
 returns-5 c = sym (off-joins _ _ (λ j. omega (arith, j .next, j .order, j .region, j .offset)))
 
--- src/flat.rt:49:1
 returns-6 : tie.Need-returns-6
 returns-6 c =
     joins-last _ _ (omega (arith, c .before .before .before .before .before .before .before .before .before .before .before .before .before .before .before .before .if1 .left, c .before .before .before .before .before .before .before .before .before .before .before .before .before .if2 .left))

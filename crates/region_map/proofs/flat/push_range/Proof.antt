@@ -1,3 +1,4 @@
+-- `region_map::flat::push_range` meets its contract. Assumes nothing.
 use mathlib.Core.Path.{_≡_, refl, sym, _∙_}
 use mathlib.Core.Bool.{false}
 use mathlib.Core.Logic.{⊎-elim}
@@ -10,9 +11,6 @@ use Rattle.region_map.specs.Flatten.{noRange}
 use Rattle.region_map.specs.FlatList.{joins}
 use Rattle.region_map.proofs.flat.push_range.Statement.{statement}
 use Rattle.region_map.proofs.flat.push_range.Tie as tie
-use Rattle.region_map.proofs.flat.push_range.Reads as reads
-use Rattle.region_map.proofs.flat.push_range.Lts as lts
-use Rattle.region_map.proofs.flat.goes_on.Reads as goes-on-reads
 
 -- the array has its 256 entries
 whole : (c : tie.Start) → length (c .args .t1 .ranges) ≡ 256
@@ -23,31 +21,24 @@ behind : (c : tie.Joined1)
     → 0 < c .before .args .t1 .count → joins (getD (c .before .args .t1 .ranges) (c .before .args .t1 .count - 1) noRange) (c .before .args .r) ≡ false
 behind c = ⊎-elim (λ w p. sym (w .2 .ensures) ∙ w .3 .left) (λ w p. absurd (omega (arith, w .left))) (c .if1 .came)
 
--- src/flat.rt:76:17
 sub-k : tie.Need-sub-k
 sub-k c = search needs
 
--- src/flat.rt:77:17
 mul-x : tie.Need-mul-x
 mul-x c = search needs
 
--- src/flat.rt:77:17
 element-copy-out-x : tie.Need-element-copy-out-x
 element-copy-out-x c = search needs
 
--- src/flat.rt:78:12
 goes-on-requires : tie.Need-goes-on-requires
 goes-on-requires c κs = search needs
 
--- src/flat.rt:82:13
 mul-t17 : tie.Need-mul-t17
 mul-t17 c = search needs
 
--- src/flat.rt:82:13
 element-set-from-v : tie.Need-element-set-from-v
 element-set-from-v c = search needs
 
--- src/flat.rt:90:13
 returns : tie.Need-returns
 returns c = (
   grew (c .before .before .before .before .before .before .before .args .t1) (c .before .before .before .before .before .before .before .args .r) (whole (c .before .before .before .before .before .before .before)) (search needs) (search needs)
@@ -55,24 +46,19 @@ returns c = (
   blank-grown (c .before .before .before .before .before .before .before .args .t1) _ (search needs),
 )
 
--- src/flat.rt:97:9
 returns-2 : tie.Need-returns-2
 returns-2 c =
     (refused (c .before .before .args .t1) (c .before .before .args .r) (whole (c .before .before)) (search needs) (behind (c .before)) (search needs), λ b. b)
 
--- src/flat.rt:102:5
 mul-r : tie.Need-mul-r
 mul-r c = search needs
 
--- src/flat.rt:102:5
 element-set-from-r : tie.Need-element-set-from-r
 element-set-from-r c = search needs
 
--- src/flat.rt:103:15
 add-v : tie.Need-add-v
 add-v c = search needs
 
--- src/flat.rt:70:1
 returns-3 : tie.Need-returns-3
 returns-3 c = (
   added (c .before .before .args .t1) (c .before .before .args .r) (whole (c .before .before)) (search needs) (behind (c .before))

@@ -1,3 +1,4 @@
+-- `region_map::search::first_pair` meets its contract. Assumes nothing.
 use Rattle.region_map.specs.declared.search.Pair.the-variants.{Nothing}
 use Rattle.region_map.proofs.First.{pair-none, pair-at}
 use Rattle.region_map.specs.Check.{FirstIs}
@@ -10,9 +11,6 @@ use mathlib.Core.Path.{_≡_, sym, _∙_, subst⁻¹}
 use borrow.Author.Needs.{needs}
 use Rattle.region_map.proofs.search.first_pair.Statement.{statement}
 use Rattle.region_map.proofs.search.first_pair.Tie as tie
-use Rattle.region_map.proofs.search.first_pair.Reads as reads
-use Rattle.region_map.proofs.search.first_pair.Lts as lts
-use Rattle.region_map.proofs.clash.clashes.Reads as clashes-reads
 
 abbrev Inv-loop : tie.InvT-loop
 Inv-loop map rule count found₀ i j₀ found j = (found ≡ Nothing) × (i < j) × (j ≤ count) × ((b : ℕ) → b < j → i < b → clash rule map i b ≡ false)
@@ -26,51 +24,39 @@ Inv-search map rule count found₀ i₀ found i = (found ≡ Nothing) × (i ≤ 
 abbrev μ-search : tie.MeasureT-search
 μ-search map rule count found₀ i₀ found i = count - i
 
--- src/search.rt:45:5
 search-holds : tie.Need-search-holds Inv-loop μ-loop Inv-search μ-search
 search-holds c = (search needs, search needs, below-none _)
 
--- src/search.rt:46:18
 add-j : tie.Need-add-j Inv-loop μ-loop Inv-search μ-search
 add-j c = search needs
 
--- src/search.rt:46:9
 loop-holds : tie.Need-loop-holds Inv-loop μ-loop Inv-search μ-search
 loop-holds c = (c .before .search .inv .0, omega arith, omega arith, λ b p q. absurd (omega arith))
 
--- src/search.rt:47:16
 clashes-requires : tie.Need-clashes-requires Inv-loop μ-loop Inv-search μ-search
 clashes-requires c κs = search needs
 
--- src/search.rt:46:13
 add-j-2 : tie.Need-add-j-2 Inv-loop μ-loop Inv-search μ-search
 add-j-2 c = search needs
 
--- src/search.rt:46:9
 loop-less : tie.Need-loop-less Inv-loop μ-loop Inv-search μ-search
 loop-less c = search needs
 
--- src/search.rt:46:9
 loop-again : tie.Need-loop-again Inv-loop μ-loop Inv-search μ-search
 loop-again c = let l = c .before .before .before .loop in (l .inv .0, omega arith, omega arith, below-more _ _ (l .inv .3) (λ _. sym (c .before .clashes .ensures) ∙ c .if1 .left))
 
--- src/search.rt:45:18
 add-i : tie.Need-add-i Inv-loop μ-loop Inv-search μ-search
 add-i c = search needs
 
--- src/search.rt:45:5
 search-less : tie.Need-search-less Inv-loop μ-loop Inv-search μ-search
 search-less c = search needs
 
--- src/search.rt:45:5
 search-again : tie.Need-search-again Inv-loop μ-loop Inv-search μ-search
 search-again c = let s = c .before .before .before .search in (c .before .loop .inv .0, omega arith, below-more _ _ (s .inv .2) (λ b p q. c .before .loop .inv .3 b (omega arith) q))
 
--- src/search.rt:39:1
 returns : tie.Need-returns Inv-loop μ-loop Inv-search μ-search
 returns c = subst⁻¹ (FirstIs _ _) (c .before .search .inv .0) (λ k. pair-none _ k _ (λ i p. c .before .search .inv .2 i (omega arith)))
 
--- src/search.rt:39:1
 returns-2 : tie.Need-returns-2 Inv-loop μ-loop Inv-search μ-search
 returns-2 c = let l = c .before .before .before .loop in λ k. pair-at _ k _ _ _ (l .inv .1) (c .before .before .loop-test .taken) (c .before .before .before .before .before .search .inv .2) (l .inv .3) (sym (c .before .clashes .ensures) ∙ c .if1 .taken)
 

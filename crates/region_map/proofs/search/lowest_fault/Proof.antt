@@ -1,3 +1,4 @@
+-- `region_map::search::lowest_fault` meets its contract. Assumes nothing.
 use Rattle.region_map.proofs.First.{lowest-none, lowest-at}
 use Rattle.region_map.specs.Fault.{fault}
 use borrow.Author.Count.{below-none, below-more}
@@ -8,9 +9,6 @@ use mathlib.Core.Path.{_≡_, sym, _∙_, subst⁻¹}
 use borrow.Author.Needs.{needs}
 use Rattle.region_map.proofs.search.lowest_fault.Statement.{statement}
 use Rattle.region_map.proofs.search.lowest_fault.Tie as tie
-use Rattle.region_map.proofs.search.lowest_fault.Reads as reads
-use Rattle.region_map.proofs.search.lowest_fault.Lts as lts
-use Rattle.region_map.proofs.fault.at_fault.Reads as at-fault-reads
 
 abbrev Inv-loop : tie.InvT-loop
 Inv-loop map memory-length rule count n₀ n = (n ≤ count) × ((k : ℕ) → k < n → fault rule map memory-length k ≡ false)
@@ -18,31 +16,24 @@ Inv-loop map memory-length rule count n₀ n = (n ≤ count) × ((k : ℕ) → k
 abbrev μ-loop : tie.MeasureT-loop
 μ-loop map memory-length rule count n₀ n = count - n
 
--- src/search.rt:30:5
 loop-holds : tie.Need-loop-holds Inv-loop μ-loop
 loop-holds c = (search needs, below-none _)
 
--- src/search.rt:31:12
 at-fault-requires : tie.Need-at-fault-requires Inv-loop μ-loop
 at-fault-requires c κs = search needs
 
--- src/search.rt:32:13
 returns : tie.Need-returns Inv-loop μ-loop
 returns c = λ k. lowest-at _ k _ _ (c .before .before .loop-test .taken) (c .before .before .before .loop .inv .1) (sym (c .before .at-fault .ensures) ∙ c .if1 .taken)
 
--- src/search.rt:30:9
 add-n : tie.Need-add-n Inv-loop μ-loop
 add-n c = search needs
 
--- src/search.rt:30:5
 loop-less : tie.Need-loop-less Inv-loop μ-loop
 loop-less c = search needs
 
--- src/search.rt:30:5
 loop-again : tie.Need-loop-again Inv-loop μ-loop
 loop-again c = (search needs, below-more _ _ (c .before .before .before .loop .inv .1) (sym (c .before .at-fault .ensures) ∙ c .if1 .left))
 
--- src/search.rt:25:1
 returns-2 : tie.Need-returns-2 Inv-loop μ-loop
 returns-2 c = λ k. lowest-none _ k _ (λ i p. c .before .loop .inv .1 i (omega arith))
 

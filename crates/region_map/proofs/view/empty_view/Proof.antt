@@ -1,12 +1,10 @@
+-- `region_map::view::empty_view` meets its contract. Assumes nothing.
 use Rattle.region_map.specs.Flatten.{viewOf}
 use mathlib.Core.Path.{refl}
 use borrow.Author.Needs.{needs}
 use Rattle.region_map.proofs.view.empty_view.Statement.{statement}
 use Rattle.region_map.proofs.view.empty_view.Tie as tie
-use Rattle.region_map.proofs.view.empty_view.Reads as reads
-use Rattle.region_map.proofs.view.empty_view.Lts as lts
 
--- src/view.rt:44:1
 returns : tie.Need-returns
 unfolding viewOf
 returns c = refl

@@ -1,3 +1,4 @@
+-- `region_map::walk::walk` and `walk_children` meet their contracts, as one cycle of calls: the measure is the region number and the children left. Assumes nothing.
 use mathlib.Core.Path.{_≡_, refl}
 use native.Mathlib.Omega.{arith}
 use Rattle.region_map.proofs.WalkLaws.{to-next, to-child, is-child, child-below, child-sees, child-later, own-nothing, own-self, sees-rest, sees-first, sees-within, sees-later, walk-past, walk-alias, walk-inside}

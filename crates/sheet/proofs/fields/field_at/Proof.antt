@@ -1,41 +1,32 @@
+-- `sheet::fields::field_at` meets its contract. Assumes nothing.
 use Prim.Native.Nat.{ℕ}
 use mathlib.Core.Path.{_≡_, refl, sym, ap, _∙_}
 use native.Mathlib.Omega.{arith}
 use borrow.Author.Needs.{needs}
 use Rattle.sheet.proofs.fields.field_at.Statement.{statement}
 use Rattle.sheet.proofs.fields.field_at.Tie as tie
-use Rattle.sheet.proofs.fields.field_at.Reads as reads
-use Rattle.sheet.proofs.fields.field_at.Lts as lts
 
--- src/fields.rt:28:9
 returns : tie.Need-returns
 returns c = search needs
 
--- src/fields.rt:28:9
 returns-2 : tie.Need-returns-2
 returns-2 c = search needs
 
--- src/fields.rt:28:9
 returns-3 : tie.Need-returns-3
 returns-3 c = search needs
 
--- src/fields.rt:28:9
 returns-4 : tie.Need-returns-4
 returns-4 c = let e : c .before .before .args .i ≡ 3 = omega arith in rw e
 
--- src/fields.rt:23:1
 returns-5 : tie.Need-returns-5
 returns-5 c = search needs
 
--- src/fields.rt:23:1
 returns-6 : tie.Need-returns-6
 returns-6 c = search needs
 
--- src/fields.rt:23:1
 returns-7 : tie.Need-returns-7
 returns-7 c = search needs
 
--- src/fields.rt:23:1
 returns-8 : tie.Need-returns-8
 returns-8 c = let e : c .before .before .args .i ≡ 7 = omega arith in rw e
 

@@ -1,3 +1,4 @@
+-- `sheet::fields::read_fields` meets its contract. Assumes nothing.
 use Rattle.sheet.proofs.RegionLaws.{fields-more, fields-refused, fields-done}
 use Rattle.sheet.specs.Region.{sheetFields, fieldsFrom}
 use lib.ListN.{drop}
@@ -7,10 +8,6 @@ use mathlib.Core.Path.{_≡_, refl, sym, ap, _∙_}
 use borrow.Author.Needs.{needs}
 use Rattle.sheet.proofs.fields.read_fields.Statement.{statement}
 use Rattle.sheet.proofs.fields.read_fields.Tie as tie
-use Rattle.sheet.proofs.fields.read_fields.Reads as reads
-use Rattle.sheet.proofs.fields.read_fields.Lts as lts
-use Rattle.sheet.proofs.fields.field_at.Reads as field-at-reads
-use Rattle.sheet.proofs.fields.read_field.Reads as read-field-reads
 
 abbrev Inv-loop : tie.InvT-loop
 Inv-loop sheet region₀ at₀ i₀ region at i = (i ≤ 8) × (fieldsFrom sheet (drop i sheetFields) region (at .at) ≡ fieldsFrom sheet sheetFields region₀ (at₀ .at))
@@ -18,43 +15,33 @@ Inv-loop sheet region₀ at₀ i₀ region at i = (i ≤ 8) × (fieldsFrom sheet
 abbrev μ-loop : tie.MeasureT-loop
 μ-loop sheet region₀ at₀ i₀ region at i = 8 - i
 
--- src/fields.rt:69:5
 loop-holds : tie.Need-loop-holds Inv-loop μ-loop
 loop-holds c = (search needs, refl)
 
--- src/fields.rt:70:13
 field-at-requires : tie.Need-field-at-requires Inv-loop μ-loop
 field-at-requires c κs = search needs
 
--- src/fields.rt:71:15
 read-field-requires : tie.Need-read-field-requires Inv-loop μ-loop
 read-field-requires c κs = search needs
 
--- src/fields.rt:72:31
 enum-known-known : tie.Need-enum-known-known Inv-loop μ-loop
 enum-known-known c = search needs
 
--- src/fields.rt:76:33
 enum-known-answer : tie.Need-enum-known-answer Inv-loop μ-loop
 enum-known-answer c = search needs
 
--- src/fields.rt:77:17
 returns : tie.Need-returns Inv-loop μ-loop
 returns c = fields-refused _ _ _ _ (c .before .before .before .before .before .loop-test .taken) _ (c .before .before .before .before .field-at .ensures) _ (sym (c .before .before .before .read-field .ensures) ∙ ap regionOf (c .before .answer .given .1)) ∙ c .before .before .before .before .before .before .loop .inv .1
 
--- src/fields.rt:69:9
 add-i : tie.Need-add-i Inv-loop μ-loop
 add-i c = search needs
 
--- src/fields.rt:69:5
 loop-less : tie.Need-loop-less Inv-loop μ-loop
 loop-less c = search needs
 
--- src/fields.rt:69:5
 loop-again : tie.Need-loop-again Inv-loop μ-loop
 loop-again c = (search needs, fields-more _ _ _ _ (c .before .before .before .before .before .loop-test .taken) _ (c .before .before .before .before .field-at .ensures) _ _ (sym (c .before .before .before .read-field .ensures) ∙ ap regionOf (c .before .known .given .1)) ∙ c .before .before .before .before .before .before .loop .inv .1)
 
--- src/fields.rt:64:1
 returns-2 : tie.Need-returns-2 Inv-loop μ-loop
 returns-2 c = fields-done _ _ _ _ (c .loop-test .left) ∙ c .before .loop .inv .1
 

@@ -1,3 +1,4 @@
+-- `sheet::fields::read_region` meets its contract. Assumes nothing.
 use Rattle.sheet.proofs.RegionLaws.{region-refused, region-kind, region-read}
 use borrow.Author.Tests.{lt-ltb, le-ltb}
 use Rattle.sheet.specs.Number.{numberOf}
@@ -5,36 +6,25 @@ use mathlib.Core.Path.{_≡_, refl, sym, ap, _∙_}
 use borrow.Author.Needs.{needs}
 use Rattle.sheet.proofs.fields.read_region.Statement.{statement}
 use Rattle.sheet.proofs.fields.read_region.Tie as tie
-use Rattle.sheet.proofs.fields.read_region.Reads as reads
-use Rattle.sheet.proofs.fields.read_region.Lts as lts
-use Rattle.sheet.proofs.fields.read_fields.Reads as read-fields-reads
-use Rattle.sheet.proofs.number.read_number.Reads as read-number-reads
 
--- src/fields.rt:88:11
 read-number-requires : tie.Need-read-number-requires
 read-number-requires c κs = search needs
 
--- src/fields.rt:89:29
 enum-known-answer : tie.Need-enum-known-answer
 enum-known-answer c = search needs
 
--- src/fields.rt:90:27
 enum-known-kind : tie.Need-enum-known-kind
 enum-known-kind c = search needs
 
--- src/fields.rt:92:17
 returns : tie.Need-returns
 returns c = region-kind _ _ _ _ (sym (c .before .before .before .before .read-number .ensures) ∙ ap numberOf (c .before .before .kind .given .1)) (lt-ltb _ _ (c .if1 .taken))
 
--- src/fields.rt:105:13
 read-fields-requires : tie.Need-read-fields-requires
 read-fields-requires c κs = search needs
 
--- src/fields.rt:85:1
 returns-2 : tie.Need-returns-2
 returns-2 c = region-refused _ _ _ (sym (c .before .before .before .read-number .ensures) ∙ ap numberOf (c .before .answer .given .1))
 
--- src/fields.rt:85:1
 returns-3 : tie.Need-returns-3
 returns-3 c = c .read-fields .ensures ∙ region-read _ _ _ _ (sym (c .before .before .before .before .before .read-number .ensures) ∙ ap numberOf (c .before .before .before .kind .given .1)) (le-ltb _ _ (c .before .if1 .left))
 

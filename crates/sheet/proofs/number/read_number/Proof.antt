@@ -1,3 +1,4 @@
+-- `sheet::number::read_number` meets its contract. Assumes nothing.
 use Rattle.sheet.proofs.NumberLaws.{Reading, started, scale-bound, group-bound, at-end, at-last-zero, at-last, at-eighth, at-more, at-ninth}
 use Rattle.sheet.specs.Number.{number}
 use Prim.Native.Nat.{_-_}
@@ -5,9 +6,6 @@ use native.Mathlib.Omega.{arith}
 use borrow.Author.Needs.{needs}
 use Rattle.sheet.proofs.number.read_number.Statement.{statement}
 use Rattle.sheet.proofs.number.read_number.Tie as tie
-use Rattle.sheet.proofs.number.read_number.Reads as reads
-use Rattle.sheet.proofs.number.read_number.Lts as lts
-use Rattle.sheet.proofs.number.wide.Reads as wide-reads
 
 abbrev Inv-loop : tie.InvT-loop
 Inv-loop sheet at₀ value₀ scale₀ i₀ at value scale i = Reading sheet (number sheet at₀) at value scale i
@@ -15,75 +13,57 @@ Inv-loop sheet at₀ value₀ scale₀ i₀ at value scale i = Reading sheet (nu
 abbrev μ-loop : tie.MeasureT-loop
 μ-loop sheet at₀ value₀ scale₀ i₀ at value scale i = 8 - i
 
--- src/number.rt:27:5
 loop-holds : tie.Need-loop-holds Inv-loop μ-loop
 loop-holds c = started _ _
 
--- src/number.rt:29:13
 returns : tie.Need-returns Inv-loop μ-loop
 returns c = at-end _ _ _ _ _ _ (c .before .before .loop .inv) (c .before .loop-test .taken) (c .if1 .taken)
 
--- src/number.rt:31:25
 shared-slice-read-wide : tie.Need-shared-slice-read-wide Inv-loop μ-loop
 shared-slice-read-wide c = search needs
 
--- src/number.rt:31:13
 wide-requires : tie.Need-wide-requires Inv-loop μ-loop
 wide-requires c κs = search needs
 
--- src/number.rt:34:17
 returns-2 : tie.Need-returns-2 Inv-loop μ-loop
 returns-2 c = at-last-zero _ _ _ _ _ _ (c .before .before .before .before .before .before .loop .inv) (c .before .before .before .before .before .loop-test .taken) (c .before .before .before .before .if1 .left) _ (c .before .before .wide .ensures .0) (c .before .if2 .taken) (c .if3 .taken)
 
--- src/number.rt:36:33
 mul-whole : tie.Need-mul-whole Inv-loop μ-loop
 mul-whole c = omega (arith, group-bound _ _ _ _ _ _ (c .before .before .before .before .before .before .loop .inv) (c .before .before .before .before .before .loop-test .taken) (c .before .before .wide .result) (omega arith), scale-bound _ _ _ _ _ _ (c .before .before .before .before .before .before .loop .inv) (c .before .before .before .before .before .loop-test .taken))
 
--- src/number.rt:36:25
 add-whole : tie.Need-add-whole Inv-loop μ-loop
 add-whole c = omega (arith, group-bound _ _ _ _ _ _ (c .before .before .before .before .before .before .loop .inv) (c .before .before .before .before .before .loop-test .taken) (c .before .before .wide .result) (omega arith), scale-bound _ _ _ _ _ _ (c .before .before .before .before .before .before .loop .inv) (c .before .before .before .before .before .loop-test .taken), c .before .before .before .before .before .before .loop .inv .small)
 
--- src/number.rt:37:58
 add-t20 : tie.Need-add-t20 Inv-loop μ-loop
 add-t20 c = search needs
 
--- src/number.rt:37:13
 returns-3 : tie.Need-returns-3 Inv-loop μ-loop
 returns-3 c = at-last _ _ _ _ _ _ (c .before .before .before .before .before .before .loop .inv) (c .before .before .before .before .before .loop-test .taken) (c .before .before .before .before .if1 .left) _ (c .before .before .wide .ensures .0) (c .before .if2 .taken) (c .if3 .left)
 
--- src/number.rt:40:13
 returns-4 : tie.Need-returns-4 Inv-loop μ-loop
 returns-4 c = at-eighth _ _ _ _ _ _ (c .before .before .before .before .before .before .loop .inv) (c .before .before .before .before .before .loop-test .taken) (c .before .before .before .before .if1 .left) _ (c .before .before .wide .ensures .0) (c .before .if2 .left) (c .if4 .taken)
 
--- src/number.rt:42:18
 mul-value : tie.Need-mul-value Inv-loop μ-loop
 mul-value c = omega (arith, group-bound _ _ _ _ _ _ (c .before .before .before .before .before .before .loop .inv) (c .before .before .before .before .before .loop-test .taken) (c .before .before .wide .result - 128) (omega arith), scale-bound _ _ _ _ _ _ (c .before .before .before .before .before .before .loop .inv) (c .before .before .before .before .before .loop-test .taken))
 
--- src/number.rt:42:9
 add-value : tie.Need-add-value Inv-loop μ-loop
 add-value c = omega (arith, group-bound _ _ _ _ _ _ (c .before .before .before .before .before .before .loop .inv) (c .before .before .before .before .before .loop-test .taken) (c .before .before .wide .result - 128) (omega arith), scale-bound _ _ _ _ _ _ (c .before .before .before .before .before .before .loop .inv) (c .before .before .before .before .before .loop-test .taken), c .before .before .before .before .before .before .loop .inv .small)
 
--- src/number.rt:43:9
 mul-scale : tie.Need-mul-scale Inv-loop μ-loop
 mul-scale c = omega (arith, scale-bound _ _ _ _ _ _ (c .before .before .before .before .before .before .loop .inv) (c .before .before .before .before .before .loop-test .taken))
 
--- src/number.rt:44:9
 add-at : tie.Need-add-at Inv-loop μ-loop
 add-at c = search needs
 
--- src/number.rt:27:9
 add-i : tie.Need-add-i Inv-loop μ-loop
 add-i c = search needs
 
--- src/number.rt:27:5
 loop-less : tie.Need-loop-less Inv-loop μ-loop
 loop-less c = search needs
 
--- src/number.rt:27:5
 loop-again : tie.Need-loop-again Inv-loop μ-loop
 loop-again c = at-more _ _ _ _ _ _ (c .before .before .before .before .before .before .loop .inv) (c .before .before .before .before .before .loop-test .taken) (c .before .before .before .before .if1 .left) _ (c .before .before .wide .ensures .0) (c .before .if2 .left) (c .if4 .left) (c .before .before .wide .ensures .1)
 
--- src/number.rt:21:1
 returns-5 : tie.Need-returns-5 Inv-loop μ-loop
 returns-5 c = at-ninth _ _ _ _ _ _ (c .before .loop .inv) (c .loop-test .left)
 

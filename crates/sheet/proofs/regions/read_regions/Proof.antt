@@ -1,3 +1,4 @@
+-- `sheet::regions::read_regions` meets its contract. Assumes nothing.
 use Rattle.sheet.proofs.SheetLaws.{regions-more, regions-refused, regions-done}
 use Rattle.sheet.specs.Sheet.{regionsFrom, blankMap}
 use lib.ListN.{length, length-set}
@@ -9,10 +10,6 @@ use mathlib.Core.Path.{_≡_, refl, sym, ap, _∙_}
 use borrow.Author.Needs.{needs}
 use Rattle.sheet.proofs.regions.read_regions.Statement.{statement}
 use Rattle.sheet.proofs.regions.read_regions.Tie as tie
-use Rattle.sheet.proofs.regions.read_regions.Reads as reads
-use Rattle.sheet.proofs.regions.read_regions.Lts as lts
-use Rattle.region_map.proofs.map.empty_map.Reads as empty-map-reads
-use Rattle.sheet.proofs.fields.read_region.Reads as read-region-reads
 
 abbrev Inv-loop : tie.InvT-loop
 Inv-loop sheet count map₀ at₀ n₀ map at n = (n ≤ count) × (length (map .regions) ≡ 32) × (regionsFrom sheet (count - n) n map (at .at) ≡ regionsFrom sheet count 0 (blankMap count) (at₀ .at))
@@ -20,51 +17,39 @@ Inv-loop sheet count map₀ at₀ n₀ map at n = (n ≤ count) × (length (map 
 abbrev μ-loop : tie.MeasureT-loop
 μ-loop sheet count map₀ at₀ n₀ map at n = count - n
 
--- src/regions.rt:29:19
 empty-map-requires : tie.Need-empty-map-requires Inv-loop μ-loop
 empty-map-requires c κs = search needs
 
--- src/regions.rt:33:5
 loop-holds : tie.Need-loop-holds Inv-loop μ-loop
 loop-holds c = (omega arith, rw (c .empty-map .ensures), rw (c .empty-map .ensures, sub-zero))
 
--- src/regions.rt:34:15
 read-region-requires : tie.Need-read-region-requires Inv-loop μ-loop
 read-region-requires c κs = search needs
 
--- src/regions.rt:35:31
 enum-known-region : tie.Need-enum-known-region Inv-loop μ-loop
 enum-known-region c = search needs
 
--- src/regions.rt:36:17
 mul-region : tie.Need-mul-region Inv-loop μ-loop
 mul-region c = search needs
 
--- src/regions.rt:36:17
 element-set-from-region : tie.Need-element-set-from-region Inv-loop μ-loop
 element-set-from-region c = search needs
 
--- src/regions.rt:39:33
 enum-known-answer : tie.Need-enum-known-answer Inv-loop μ-loop
 enum-known-answer c = search needs
 
--- src/regions.rt:40:17
 returns : tie.Need-returns Inv-loop μ-loop
 returns c = regions-refused _ _ _ _ _ (c .before .before .before .before .loop-test .taken) _ (sym (c .before .before .before .read-region .ensures) ∙ ap regionOf (c .before .answer .given .1)) ∙ c .before .before .before .before .before .loop .inv .2
 
--- src/regions.rt:46:9
 add-n : tie.Need-add-n Inv-loop μ-loop
 add-n c = search needs
 
--- src/regions.rt:33:5
 loop-less : tie.Need-loop-less Inv-loop μ-loop
 loop-less c = search needs
 
--- src/regions.rt:33:5
 loop-again : tie.Need-loop-again Inv-loop μ-loop
 loop-again c = (omega arith, simp length-set (c .before .before .before .before .before .loop .inv .1), regions-more _ _ _ _ _ (c .before .before .before .before .loop-test .taken) _ _ (sym (c .before .before .before .read-region .ensures) ∙ ap regionOf (c .before .region .given .1)) ∙ c .before .before .before .before .before .loop .inv .2)
 
--- src/regions.rt:25:1
 returns-2 : tie.Need-returns-2 Inv-loop μ-loop
 returns-2 c = regions-done _ _ _ _ _ (c .loop-test .left) ∙ c .before .loop .inv .2
 

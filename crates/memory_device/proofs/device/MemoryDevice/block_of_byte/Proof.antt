@@ -1,3 +1,4 @@
+-- `memory_device::device::MemoryDevice::block_of_byte` meets its contract. Assumes nothing.
 use Rattle.memory_device.proofs.RuleLaws.{device-valid, blocks-bound}
 use Rattle.memory_device.specs.Host.{byteBlock}
 use Rattle.memory_device.specs.Device.{deviceOk}
@@ -9,38 +10,29 @@ use mathlib.Core.Path.{_≡_, refl, sym, ap, _∙_}
 use borrow.Author.Needs.{needs}
 use Rattle.memory_device.proofs.device.MemoryDevice.block_of_byte.Statement.{statement}
 use Rattle.memory_device.proofs.device.MemoryDevice.block_of_byte.Tie as tie
-use Rattle.memory_device.proofs.device.MemoryDevice.block_of_byte.Reads as reads
-use Rattle.memory_device.proofs.device.MemoryDevice.block_of_byte.Lts as lts
-use Rattle.memory_device.proofs.rules.device_ok.Reads as device-ok-reads
 
 is-ok : (c : tie.Then1) → deviceOk (c .before .before .args .self) ≡ true
 is-ok c = sym (c .before .device-ok .ensures) ∙ c .if1 .taken
 
--- src/host.rt:152:12
 device-ok-requires : tie.Need-device-ok-requires
 device-ok-requires c κs = search needs
 
--- src/host.rt:154:29
 div-block : tie.Need-div-block
 div-block c = omega (arith, device-valid _ (is-ok (c .before .before .before)) .least)
 
--- src/host.rt:155:50
 cast-t7 : tie.Need-cast-t7
 cast-t7 c = let v = device-valid _ (is-ok (c .before .before .before)) in
     let s = c .before .before .before .before .before .args in
     omega (arith, blocks-bound (s .self .«block_size») (s .offset .0) 1024 (omega (arith, v .least)) (omega (arith, v .blocks, c .before .if2 .taken)))
 
--- src/host.rt:155:17
 returns : tie.Need-returns
 unfolding byteBlock
 returns c = rw (is-ok (c .before .before .before), lt-ltb _ _ (c .before .if2 .taken))
 
--- src/host.rt:157:13
 returns-2 : tie.Need-returns-2
 unfolding byteBlock
 returns-2 c = rw (is-ok (c .before .before), le-ltb _ _ (c .if2 .left))
 
--- src/host.rt:148:5
 returns-3 : tie.Need-returns-3
 unfolding byteBlock
 returns-3 c = rw (sym (c .before .device-ok .ensures) ∙ c .if1 .left)

@@ -1,3 +1,4 @@
+-- `memory_device::device::MemoryDevice::configuration` meets its contract. Assumes nothing.
 use Rattle.memory_device.proofs.RuleLaws.{device-valid}
 use Rattle.memory_device.specs.Host.{configured}
 use native.Mathlib.Omega.{arith}
@@ -5,30 +6,20 @@ use mathlib.Core.Path.{_≡_, refl, sym, ap, _∙_}
 use borrow.Author.Needs.{needs}
 use Rattle.memory_device.proofs.device.MemoryDevice.configuration.Statement.{statement}
 use Rattle.memory_device.proofs.device.MemoryDevice.configuration.Tie as tie
-use Rattle.memory_device.proofs.device.MemoryDevice.configuration.Reads as reads
-use Rattle.memory_device.proofs.device.MemoryDevice.configuration.Lts as lts
-use Rattle.memory_device.proofs.bytes.configuration_bytes.Reads as configuration-bytes-reads
-use Rattle.memory_device.proofs.rules.device_ok.Reads as device-ok-reads
-use Rattle.memory_device.proofs.state.plugged_size.Reads as plugged-size-reads
 
--- src/host.rt:119:12
 device-ok-requires : tie.Need-device-ok-requires
 device-ok-requires c κs = search needs
 
--- src/host.rt:120:17
 plugged-size-requires : tie.Need-plugged-size-requires
 plugged-size-requires c κs = device-valid _ (sym (c .before .device-ok .ensures) ∙ c .if1 .taken) .most
 
--- src/host.rt:121:17
 configuration-bytes-requires : tie.Need-configuration-bytes-requires
 configuration-bytes-requires c κs = search needs
 
--- src/host.rt:129:13
 returns : tie.Need-returns
 unfolding configured
 returns c = rw (sym (c .before .before .before .device-ok .ensures) ∙ c .before .before .if1 .taken, c .configuration-bytes .ensures, c .before .plugged-size .ensures .0)
 
--- src/host.rt:116:5
 returns-2 : tie.Need-returns-2
 unfolding configured
 returns-2 c = rw (sym (c .before .device-ok .ensures) ∙ c .if1 .left)

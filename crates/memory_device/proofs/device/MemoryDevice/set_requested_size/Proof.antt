@@ -1,3 +1,4 @@
+-- `memory_device::device::MemoryDevice::set_requested_size` meets its contract. Assumes nothing.
 use Rattle.memory_device.proofs.RuleLaws.{device-valid}
 use Rattle.memory_device.specs.Host.{resized}
 use native.Mathlib.Omega.{arith}
@@ -7,34 +8,24 @@ use Rattle.memory_device.proofs.device.MemoryDevice.set_requested_size.
   statement,
 }
 use Rattle.memory_device.proofs.device.MemoryDevice.set_requested_size.Tie as tie
-use Rattle.memory_device.proofs.device.MemoryDevice.set_requested_size.Reads as reads
-use Rattle.memory_device.proofs.device.MemoryDevice.set_requested_size.Lts as lts
-use Rattle.memory_device.proofs.rules.device_ok.Reads as device-ok-reads
-use Rattle.memory_device.proofs.state.with_requested.Reads as with-requested-reads
 
--- src/host.rt:29:12
 device-ok-requires : tie.Need-device-ok-requires
 device-ok-requires c κs = search needs
 
--- src/host.rt:30:17
 rem-if2 : tie.Need-rem-if2
 rem-if2 c = omega (arith, device-valid _ (sym (c .before .before .device-ok .ensures) ∙ c .before .if1 .taken) .least)
 
--- src/host.rt:31:17
 returns : tie.Need-returns
 unfolding resized
 returns c = rw (sym (c .before .before .before .before .device-ok .ensures) ∙ c .before .before .before .if1 .taken, c .if2 .taken)
 
--- src/host.rt:38:25
 with-requested-requires : tie.Need-with-requested-requires
 with-requested-requires c κs = search needs
 
--- src/host.rt:36:13
 returns-2 : tie.Need-returns-2
 unfolding resized
 returns-2 c = rw (sym (c .before .before .before .before .before .device-ok .ensures) ∙ c .before .before .before .before .if1 .taken, c .before .if2 .left, c .with-requested .ensures)
 
--- src/host.rt:26:5
 returns-3 : tie.Need-returns-3
 unfolding resized
 returns-3 c = rw (sym (c .before .device-ok .ensures) ∙ c .if1 .left)

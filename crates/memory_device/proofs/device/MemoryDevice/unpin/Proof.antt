@@ -1,3 +1,4 @@
+-- `memory_device::device::MemoryDevice::unpin` meets its contract. Assumes nothing.
 use Rattle.memory_device.specs.Table.{bitAt}
 use Rattle.memory_device.specs.Host.{unpinned}
 use Prim.Native.Nat.{ℕ}
@@ -7,44 +8,30 @@ use mathlib.Core.Path.{_≡_, refl, sym, ap, _∙_}
 use borrow.Author.Needs.{needs}
 use Rattle.memory_device.proofs.device.MemoryDevice.unpin.Statement.{statement}
 use Rattle.memory_device.proofs.device.MemoryDevice.unpin.Tie as tie
-use Rattle.memory_device.proofs.device.MemoryDevice.unpin.Reads as reads
-use Rattle.memory_device.proofs.device.MemoryDevice.unpin.Lts as lts
-use Rattle.memory_device.proofs.rules.device_ok.Reads as device-ok-reads
-use Rattle.memory_device.proofs.state.is_in.Reads as is-in-reads
-use Rattle.memory_device.proofs.state.with_tables.Reads as with-tables-reads
-use Rattle.memory_device.proofs.table.with_run.Reads as with-run-reads
 
--- src/host.rt:93:12
 device-ok-requires : tie.Need-device-ok-requires
 device-ok-requires c κs = search needs
 
--- src/host.rt:94:21
 cast-b : tie.Need-cast-b
 cast-b c = search needs
 
--- src/host.rt:97:16
 is-in-requires : tie.Need-is-in-requires
 is-in-requires c κs = search needs
 
--- src/host.rt:98:21
 with-run-requires : tie.Need-with-run-requires
 with-run-requires c κs = omega (arith, c .before .is-in .ensures .1 (c .if2 .taken))
 
--- src/host.rt:101:29
 with-tables-requires : tie.Need-with-tables-requires
 with-tables-requires c κs = search needs
 
--- src/host.rt:99:17
 returns : tie.Need-returns
 unfolding unpinned
 returns c = rw (sym (c .before .before .before .before .before .before .before .before .device-ok .ensures) ∙ c .before .before .before .before .before .before .before .if1 .taken, sym (c .before .before .before .is-in .ensures .0) ∙ c .before .before .if2 .taken, c .with-tables .ensures, c .before .with-run .ensures)
 
--- src/host.rt:104:13
 returns-2 : tie.Need-returns-2
 unfolding unpinned
 returns-2 c = rw (sym (c .before .before .before .before .before .before .device-ok .ensures) ∙ c .before .before .before .before .before .if1 .taken, sym (c .before .is-in .ensures .0) ∙ c .if2 .left)
 
--- src/host.rt:90:5
 returns-3 : tie.Need-returns-3
 unfolding unpinned
 returns-3 c = rw (sym (c .before .device-ok .ensures) ∙ c .if1 .left)

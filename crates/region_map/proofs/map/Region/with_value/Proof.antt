@@ -1,70 +1,53 @@
+-- `region_map::map::Region::with_value` meets its contract. Assumes nothing.
 use borrow.Author.Needs.{needs}
 use Rattle.region_map.proofs.map.Region.with_value.Statement.{statement}
 use Rattle.region_map.proofs.map.Region.with_value.Tie as tie
-use Rattle.region_map.proofs.map.Region.with_value.Reads as reads
-use Rattle.region_map.proofs.map.Region.with_value.Lts as lts
 
--- src/map.rt:89:30
 enum-told : tie.Need-enum-told
 enum-told c = search needs
 
--- src/map.rt:90:30
 enum-told-2 : tie.Need-enum-told-2
 enum-told-2 c = search needs
 
--- src/map.rt:91:28
 enum-told-3 : tie.Need-enum-told-3
 enum-told-3 c = search needs
 
--- src/map.rt:92:32
 enum-told-4 : tie.Need-enum-told-4
 enum-told-4 c = search needs
 
--- src/map.rt:93:35
 enum-told-5 : tie.Need-enum-told-5
 enum-told-5 c = search needs
 
--- src/map.rt:94:28
 enum-told-6 : tie.Need-enum-told-6
 enum-told-6 c = search needs
 
--- src/map.rt:95:30
 enum-told-7 : tie.Need-enum-told-7
 enum-told-7 c = search needs
 
--- src/map.rt:96:35
 enum-told-8 : tie.Need-enum-told-8
 enum-told-8 c = search needs
 
--- src/map.rt:85:5
 returns : tie.Need-returns
 returns c = simp (c .enum-told .given .1)
 
--- src/map.rt:85:5
 returns-2 : tie.Need-returns-2
 returns-2 c = simp (c .enum-told2 .given .1)
 
--- src/map.rt:85:5
 returns-3 : tie.Need-returns-3
 returns-3 c = simp (c .enum-told3 .given .1)
 
--- src/map.rt:85:5
 returns-4 : tie.Need-returns-4
 returns-4 c = simp (c .enum-told4 .given .1)
 
--- src/map.rt:85:5
 returns-5 : tie.Need-returns-5
 returns-5 c = simp (c .enum-told5 .given .1)
 
--- src/map.rt:85:5
 returns-6 : tie.Need-returns-6
 returns-6 c = simp (c .enum-told6 .given .1)
 
--- src/map.rt:85:5
 returns-7 : tie.Need-returns-7
 returns-7 c = simp (c .enum-told7 .given .1)
 
--- src/map.rt:85:5
 returns-8 : tie.Need-returns-8
 returns-8 c = simp (c .enum-told8 .given .1)
 
