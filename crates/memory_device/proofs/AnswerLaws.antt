@@ -16,12 +16,8 @@ use Rattle.memory_device.specs.declared.request.Response.{Response}
 use Rattle.memory_device.specs.declared.request.Response.the-variants as response
 use Rattle.memory_device.specs.declared.device.MemoryDevice.{MemoryDevice}
 use Rattle.memory_device.specs.declared.request.Request.{Request}
-use Rattle.memory_device.proofs.RuleLaws.{sum-within, and-fst, and-snd}
-use Rattle.memory_device.proofs.TableLaws.{never}
-
-and-off : (x : Bool) → (x && false) ≡ false
-and-off true = refl
-and-off false = refl
+use Rattle.memory_device.proofs.RuleLaws.{sum-within}
+use Rattle.region_map.proofs.Bools.{never, and-fst, and-snd, and-off}
 
 -- the range rule where the address is below the region, where the offset alone is past the usable part, and else
 module _ (x : Bool) (low address : ℕ) (u size : ℕ) where

@@ -20,14 +20,6 @@ pin-test false true false = refl
 pin-test false false true = refl
 pin-test false false false = refl
 
-pub not-on : (x : Bool) → not x ≡ true → x ≡ false
-not-on true e = sym e
-not-on false e = refl
-
-pub not-off : (x : Bool) → not x ≡ false → x ≡ true
-not-off true e = refl
-not-off false e = sym e
-
 -- no block from 1,024 on is set
 pub past-bit : (t : List ℕ) (b : ℕ) → length t ≡ 16 → 1024 ≤ b → bitAt t b ≡ false
 past-bit t b w h = rw (List·getD-eq-default t 0 {n = b / 64} (omega arith), zero-div (2 ^ (b % 64)))

@@ -8,7 +8,7 @@ use native.Mathlib.Nat.{div-mul-le-self, le-div-iff-mul-le, add-mul, mul-le-mul-
 use native.Mathlib.Decide.{decLt}
 use lib.Dec.{eqb, leb, ltb}
 use lib.ListN.{getD}
-use borrow.Author.Tests.{le-leb, lt-leb, leb-true, ltb-true, ltb-false, eqb-true, eqb-false, eq-eqb}
+use borrow.Author.Tests.{le-leb, lt-leb, leb-true, ltb-true, ltb-false, eqb-true, eqb-false, not-false, eq-eqb}
 use Rattle.memory_device.specs.Table.{bitOf, bitAt, within, tableOf, heldIn, bitsIn, setIn, onlyBelow, partOf}
 use Rattle.memory_device.specs.Device.{noBlocks, withTables, setupOk, blockOk, regionOk, addrOk, sizesOk, tablesOk, deviceOk, Valid}
 use Rattle.memory_device.specs.Host.{Outcome, refusal, done, sizeFault, withRequested, resized, pinFault, withBlock, pinned, unpinned, wasReset}
@@ -17,10 +17,11 @@ use Rattle.memory_device.specs.SetUp.{deviceOf}
 use Rattle.memory_device.specs.declared.setup.DeviceValues.{DeviceValues}
 use Rattle.memory_device.specs.declared.device.MemoryDevice.{MemoryDevice}
 use Rattle.memory_device.specs.declared.request.Request.{Request}
-use Rattle.memory_device.proofs.TableLaws.{table-bit, held-none, zero-bit, never}
+use Rattle.memory_device.proofs.TableLaws.{table-bit, held-none, zero-bit}
+use Rattle.region_map.proofs.Bools.{never, and-fst, and-snd, or-left, or-right}
 use Rattle.memory_device.proofs.AnswerLaws.{in-end, ack-range, ack-kind, all-answer, unplug-answer}
 use Rattle.memory_device.specs.declared.request.Response.the-variants as response
-use Rattle.memory_device.proofs.RuleLaws.{only-of, part-of, and-fst, and-snd, setup-ruled, device-valid, blocks-mono}
+use Rattle.memory_device.proofs.RuleLaws.{only-of, part-of, setup-ruled, device-valid, blocks-mono}
 
 -- the setup part of a record that keeps its rules
 setup-of : (d : MemoryDevice) → deviceOk d ≡ true → setupOk (d .«block_size») (d .addr) (d .«region_size») (d .«usable_size») (d .«requested_size») ≡ true
@@ -114,14 +115,6 @@ either : (x : Bool) (a b : Outcome) → (x ≡ true → deviceOk (a .device) ≡
 either true a b f g = f refl
 either false a b f g = g refl
 
-or-parts : (x y : Bool) → (x || y) ≡ false → (x ≡ false) × (y ≡ false)
-or-parts true y e = absurd (never e)
-or-parts false y e = (refl, e)
-
-not-off : (x : Bool) → not x ≡ false → x ≡ true
-not-off true e = refl
-not-off false e = absurd (never e)
-
 pub pin-kept : (d : MemoryDevice) (b : ℕ) → deviceOk d ≡ true → deviceOk (pinned d b .device) ≡ true
 unfolding pinned
 pin-kept d b h =
@@ -129,9 +122,9 @@ pin-kept d b h =
     (either (pinFault d b) (refusal 15 d) (done (withTables d (d .plugged) (withBlock (d .pinned) b true))) (λ _. h)
     (λ e.
     let plugged : bitAt (d .plugged) b ≡ true =
-    not-off (bitAt (d .plugged) b)
-    (or-parts (not (ltb b (d .«region_size» / d .«block_size»))) (not (bitAt (d .plugged) b))
-    (or-parts (not (ltb b (d .«region_size» / d .«block_size»)) || not (bitAt (d .plugged) b)) (bitAt (d .pinned) b) e .0) .1) in
+    not-false (bitAt (d .plugged) b)
+    (or-right (not (ltb b (d .«region_size» / d .«block_size»))) (not (bitAt (d .plugged) b))
+    (or-left (not (ltb b (d .«region_size» / d .«block_size»)) || not (bitAt (d .plugged) b)) (bitAt (d .pinned) b) e)) in
     device-ok (withTables d (d .plugged) (withBlock (d .pinned) b true)) (setup-of d h) (device-valid d h .inside)
     (λ c l s. run-set (d .pinned) b 1 c l s (bitAt (d .plugged) c ≡ true)
     (λ w. let z = inside-run b 1 c w in subst (λ (x : ℕ). bitAt (d .plugged) x ≡ true) (let y : b ≡ c = omega arith in y) plugged) (device-valid d h .held c l))))
@@ -151,9 +144,8 @@ resize-kept d size h =
     (λ e.
     let v = device-valid d h in
     let b = d .«block_size» in
-    let f = or-parts (not (eqb (size % b) 0)) (ltb (d .«region_size») size) e in
-    let whole : size % b ≡ 0 = eqb-true (size % b) 0 (not-off (eqb (size % b) 0) (f .0)) in
-    let fits : size ≤ d .«region_size» = ltb-false (d .«region_size») size (f .1) in
+    let whole : size % b ≡ 0 = eqb-true (size % b) 0 (not-false (eqb (size % b) 0) (or-left (not (eqb (size % b) 0)) (ltb (d .«region_size») size) e)) in
+    let fits : size ≤ d .«region_size» = ltb-false (d .«region_size») size (or-right (not (eqb (size % b) 0)) (ltb (d .«region_size») size) e) in
     let pos : 0 < b = omega (arith, v .least) in
     device-ok (withRequested d size) (resized-setup d size h whole fits)
     (λ c l s. let z = v .inside c l s in let m = blocks-mono b (d .«usable_size») (max (d .«usable_size») size) pos (omega arith) in omega arith) (v .held)))

@@ -13,7 +13,8 @@ use borrow.Author.Tests.{leb-true, leb-false, ltb-true, lt-ltb, eqb-true, eqb-fa
 use Rattle.memory_device.specs.Table.{bitAt, allBelow, onlyBelow, partOf}
 use Rattle.memory_device.specs.Device.{limit, powerBelow, blockOk, regionOk, addrOk, sizesOk, setupOk, tablesOk, deviceOk, Valid}
 use Rattle.memory_device.specs.declared.device.MemoryDevice.{MemoryDevice}
-use Rattle.memory_device.proofs.TableLaws.{all-true, all-of, never}
+use Rattle.memory_device.proofs.TableLaws.{all-true, all-of}
+use Rattle.region_map.proofs.Bools.{never, and-fst, and-snd, and-off}
 
 -- two orders that follow from each other have equal tests
 leb-same : (a b c d : ℕ) → (a ≤ b → c ≤ d) → (c ≤ d → a ≤ b) → leb a b ≡ leb c d
@@ -63,9 +64,6 @@ module _ (b : ℕ) where
           (omega arith, omega arith)
       go ih false e false f g = absurd (let z : _≡_ {A = ℕ} 0 1 = cc in omega arith)
 
-pub same-end : {i n : ℕ} → n ≤ i → i ≤ n → n ≡ i
-same-end p q = omega arith
-
 -- blocks of a size
 pub blocks-bound : (b s n : ℕ) → 0 < b → s ≤ n * b → s / b ≤ n
 blocks-bound b s n p h = let l : s / b < n + 1 = div-lt-iff-lt-mul p .1 (omega (arith, add-mul n 1 b, one-mul b)) in omega arith
@@ -108,10 +106,6 @@ module _ (t u : List ℕ) where
 pub tables-two : (p q : List ℕ) (u r : ℕ) → u ≤ r → (onlyBelow p u && partOf q p) ≡ (onlyBelow p r && onlyBelow q r && onlyBelow p u && partOf q p)
 tables-two p q u r h = go (onlyBelow p u) refl (partOf q p) refl
   where
-    and-off : (x : Bool) → (x && false) ≡ false
-    and-off true = refl
-    and-off false = refl
-
     go : (x : Bool) → onlyBelow p u ≡ x → (y : Bool) → partOf q p ≡ y → (x && y) ≡ (onlyBelow p r && onlyBelow q r && x && y)
     go true e true f =
         rw (only-of p r (λ b l k. let z = only-true p u e b l k in omega arith), only-of q r (λ b l k. let z = only-true p u e b l (part-true q p f b l k) in omega arith))
@@ -119,14 +113,6 @@ tables-two p q u r h = go (onlyBelow p u) refl (partOf q p) refl
     go false e y f = sym (ap (λ (t : Bool). t && y) (and-off (onlyBelow p r && onlyBelow q r)))
 
 -- SETUP's rules as facts
-pub and-fst : (a b : Bool) → (a && b) ≡ true → a ≡ true
-and-fst true b e = refl
-and-fst false b e = e
-
-pub and-snd : (a b : Bool) → (a && b) ≡ true → b ≡ true
-and-snd true b e = e
-and-snd false b e = absurd (never (sym e))
-
 pub record Ruled (b addr size used asked : ℕ) : Type 0 where
   pub least : 4096 ≤ b
   pub most : b ≤ 2 ^ 30

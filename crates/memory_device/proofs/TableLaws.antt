@@ -13,6 +13,7 @@ use lib.Bits.{bitAnd, bitXor, and-shr, and-mod, and-lt, xor-shr, xor-mod, xor-ze
 use lib.ListN.{length, getD, set, replicate, length-set}
 use lib.Seq.{getD-set-same, getD-set-other, ext-getD}
 use borrow.Author.Tests.{lt-ltb, le-ltb, le-leb, lt-leb}
+use Rattle.region_map.proofs.Bools.{never}
 use Rattle.memory_device.specs.Table.{bitOf, bitAt, wordOf, wordsOf, tableOf, within, heldIn, bitsIn, setIn, allBelow, onlyBelow, partOf}
 
 pub side : (e n : ℕ) → (e < n) ⊎ (n ≤ e)
@@ -21,9 +22,6 @@ side e n = ⊎-elim (λ z. inr (omega arith)) (λ p. inl (omega arith)) (eq-zero
 pub eq-or-not : (a b : ℕ) → (a ≡ b) ⊎ (a ≡ b → ⊥)
 eq-or-not a b =
     ⊎-elim (λ lt. inr (λ e. omega arith)) (λ ge. ⊎-elim (λ lt. inr (λ e. omega arith)) (λ le. inl (omega arith)) (side b a)) (side a b)
-
-pub never : true ≡ false → ⊥
-never e = let z : _≡_ {A = ℕ} 0 1 = cc in omega arith
 
 -- ---- a word and its bits
 

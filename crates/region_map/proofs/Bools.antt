@@ -1,5 +1,5 @@
 -- Laws of tests: those that say the same, of a sum and of two ranges without a sum, and of parts of a test. Assumes nothing.
-use mathlib.Core.Path.{_≡_, refl, ap₂}
+use mathlib.Core.Path.{_≡_, refl, sym, ap₂}
 use mathlib.Core.Bool.{Bool, true, false, _&&_, _||_, not}
 use Prim.Native.Nat.{ℕ, _+_, _-_, _≤_, _<_, max}
 use native.Mathlib.Omega.{arith}
@@ -62,3 +62,17 @@ not-eqb a b h = rw (ne-eqb a b h)
 
 pub is-eqb : (a b : ℕ) → not (eqb a b) ≡ false → a ≡ b
 is-eqb a b e = eqb-true a b (not-false (eqb a b) e)
+
+-- of a conjunction that is true
+pub and-fst : (a b : Bool) → (a && b) ≡ true → a ≡ true
+and-fst true b e = refl
+and-fst false b e = e
+
+pub and-snd : (a b : Bool) → (a && b) ≡ true → b ≡ true
+and-snd true b e = e
+and-snd false b e = absurd (never (sym e))
+
+-- of one whose second part is false
+pub and-off : (a : Bool) → (a && false) ≡ false
+and-off true = refl
+and-off false = refl

@@ -5,6 +5,7 @@ use Prim.Native.Nat.{ℕ, _+_, _-_, _≤_, _<_}
 use native.Mathlib.Omega.{arith}
 use lib.Dec.{leb, eqb}
 use borrow.Author.Tests.{leb-true, leb-false, eqb-true, eqb-false, eq-eqb, le-leb, lt-leb}
+use Rattle.region_map.proofs.Bools.{and-fst, and-snd, and-off}
 use Rattle.region_map.specs.declared.view.FlatRange.{FlatRange}
 use Rattle.region_map.specs.FlatList.{Joined, joins, inside}
 
@@ -17,17 +18,6 @@ pub is : (b : Bool) → Is b
 is true = on refl
 is false = off refl
 
-both-left : (p q : Bool) → _&&_ p q ≡ true → p ≡ true
-both-left true q h = refl
-both-left false q h = h
-
-both-right : (p q : Bool) → _&&_ p q ≡ true → q ≡ true
-both-right true q h = h
-both-right false q h = let z : true ≡ false = sym h in cc
-
-pub both-on : {p q : Bool} → p ≡ true → q ≡ true → _&&_ p q ≡ true
-both-on h k = rw (h, k)
-
 pub joins-on : (x r : FlatRange) → joins x r ≡ true → Joined x r
 unfolding joins
 joins-on x r h =
@@ -35,20 +25,24 @@ joins-on x r h =
     let m = leb (x .first .0) (r .first .0) in
     let q = eqb (r .region) (x .region) in
     let s = eqb (x .offset .0 + r .first .0) (r .offset .0 + x .first .0) in
-    let ms : _&&_ m (_&&_ q s) ≡ true = both-right p (_&&_ m (_&&_ q s)) h in
-    let qs : _&&_ q s ≡ true = both-right m (_&&_ q s) ms in
+    let ms : m && (q && s) ≡ true = and-snd p (m && (q && s)) h in
+    let qs : q && s ≡ true = and-snd m (q && s) ms in
     record {
-      next = eqb-true _ _ (both-left p (_&&_ m (_&&_ q s)) h);
-      order = leb-true _ _ (both-left m (_&&_ q s) ms);
-      region = eqb-true _ _ (both-left q s qs);
-      offset = eqb-true _ _ (both-right q s qs);
+      next = eqb-true _ _ (and-fst p (m && (q && s)) h);
+      order = leb-true _ _ (and-fst m (q && s) ms);
+      region = eqb-true _ _ (and-fst q s qs);
+      offset = eqb-true _ _ (and-snd q s qs);
     }
 
 pub on-joins : (x r : FlatRange) → Joined x r → joins x r ≡ true
 unfolding joins
 on-joins x r j =
-    both-on (eq-eqb _ _ (j .next))
-    (both-on (le-leb _ _ (j .order)) (both-on (eq-eqb _ _ (j .region)) (eq-eqb _ _ (j .offset))))
+    rw (
+      eq-eqb (r .first .0) (x .last .0 + 1) (j .next),
+      le-leb (x .first .0) (r .first .0) (j .order),
+      eq-eqb (r .region) (x .region) (j .region),
+      eq-eqb (x .offset .0 + r .first .0) (r .offset .0 + x .first .0) (j .offset),
+    )
 
 pub off-joins : (x r : FlatRange) → (Joined x r → ⊥) → joins x r ≡ false
 off-joins x r h = go (is (joins x r))
@@ -67,26 +61,22 @@ pub place : (x : FlatRange) (a : ℕ) → Place x a (inside x a)
 unfolding inside
 place x a = go (leb (x .first .0) a) (leb a (x .last .0)) refl refl
   where
-    go : (p q : Bool) → leb (x .first .0) a ≡ p → leb a (x .last .0) ≡ q → Place x a (_&&_ p q)
+    go : (p q : Bool) → leb (x .first .0) a ≡ p → leb a (x .last .0) ≡ q → Place x a (p && q)
     go true true h k = within (leb-true _ _ h) (leb-true _ _ k)
     go true false h k = beyond (leb-false _ _ k)
     go false q h k = before (leb-false _ _ h)
 
 pub inside-on : (x : FlatRange) (a : ℕ) → x .first .0 ≤ a → a ≤ x .last .0 → inside x a ≡ true
 unfolding inside
-inside-on x a h k = both-on (le-leb _ _ h) (le-leb _ _ k)
+inside-on x a h k = rw (le-leb (x .first .0) a h, le-leb a (x .last .0) k)
 
 pub inside-before : (x : FlatRange) (a : ℕ) → a < x .first .0 → inside x a ≡ false
 unfolding inside
 inside-before x a h = rw (lt-leb (x .first .0) a h)
 
-both-off : (p : Bool) {q : Bool} → q ≡ false → _&&_ p q ≡ false
-both-off true h = h
-both-off false h = refl
-
 pub inside-beyond : (x : FlatRange) (a : ℕ) → x .last .0 < a → inside x a ≡ false
 unfolding inside
-inside-beyond x a h = both-off (leb (x .first .0) a) (lt-leb a (x .last .0) h)
+inside-beyond x a h = rw (lt-leb a (x .last .0) h) (and-off (leb (x .first .0) a))
 
 -- the last test of the code, once the others have held
 pub joins-last : (x r : FlatRange) → r .first .0 - x .last .0 ≡ 1 → x .first .0 ≤ r .first .0 → r .region ≡ x .region → x .offset .0 ≤ r .offset .0

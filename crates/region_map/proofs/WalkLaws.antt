@@ -1,6 +1,6 @@
 -- Laws of the walk's definitions. Assumes nothing.
 use mathlib.Core.Path.{_≡_, refl, sym, ap, subst, _∙_}
-use mathlib.Core.Bool.{Bool, true, false, _&&_, cond, false≢true}
+use mathlib.Core.Bool.{Bool, true, false, _&&_, cond}
 use Prim.Native.Nat.{ℕ, zero, suc, _+_, _-_, _*_, _%_, _^_, _≤_, _<_}
 use mathlib.Core.Logic.{_⊎_, ⊎-elim}
 use native.Mathlib.Nat.{add-zero, add-suc}
@@ -14,6 +14,7 @@ use Rattle.region_map.specs.declared.map.RegionOffset.{RegionOffset}
 use Rattle.region_map.specs.declared.walk.Seen.{Seen}
 use Rattle.region_map.specs.declared.resolve.Resolved.{Resolved}
 use Rattle.region_map.specs.declared.resolve.Resolved.the-variants.{Nothing, At}
+use Rattle.region_map.proofs.Bools.{and-fst, and-snd}
 use Rattle.region_map.specs.Map.{region}
 use Rattle.region_map.specs.Clash.{priorityOf}
 use Rattle.region_map.specs.Walk.{rank, child, ranked, orElse, holds, asked, own, answer, tried, visit, walkBelow, walk}
@@ -30,14 +31,6 @@ and-no true true h = absurd (h refl refl)
 and-no true false h = refl
 and-no false y h = refl
 
-pub and-left : (x y : Bool) → (x && y) ≡ true → x ≡ true
-and-left true y e = refl
-and-left false y e = e
-
-pub and-right : (x y : Bool) → (x && y) ≡ true → y ≡ true
-and-right true y e = e
-and-right false y e = absurd (false≢true e)
-
 -- Ranks.
 
 pub priority-le : (r : Region) → r .priority ≤ 255 → priorityOf r ≤ 255
@@ -53,11 +46,11 @@ is-ranked m n c l h p = simp (rank-mod m c h, lt-ltb _ _ l, eq-eqb _ _ p, eq-eqb
 
 child-parent : (m : RegionMap) (n c : ℕ) → child m n c ≡ true → region m c .parent ≡ n + 1
 unfolding child
-child-parent m n c e = eqb-true _ _ (and-right (ltb c n) _ e)
+child-parent m n c e = eqb-true _ _ (and-snd (ltb c n) _ e)
 
 child-lt : (m : RegionMap) (n c : ℕ) → child m n c ≡ true → c < n
 unfolding child
-child-lt m n c e = ltb-true _ _ (and-left (ltb c n) _ e)
+child-lt m n c e = ltb-true _ _ (and-fst (ltb c n) _ e)
 
 pub not-ranked : (m : RegionMap) (n k : ℕ) → (region m (k % 32) .parent ≡ n + 1 → rank m (k % 32) ≡ k → ⊥) → ranked m n k ≡ false
 unfolding ranked
@@ -65,7 +58,7 @@ not-ranked m n k h = and-no _ _ (λ p q. h (child-parent m n (k % 32) p) (eqb-tr
 
 pub child-below : (m : RegionMap) (n k : ℕ) → ranked m n k ≡ true → k % 32 < n
 unfolding ranked
-child-below m n k e = child-lt m n (k % 32) (and-left _ _ e)
+child-below m n k e = child-lt m n (k % 32) (and-fst _ _ e)
 
 -- one node more is looked at: no rank from b up to `below` is a child's that is c
 pub looked : (m : RegionMap) (n b below c : ℕ) → ((k : ℕ) → b ≤ k → k < below → k % 32 < c → ranked m n k ≡ false) → (region m c .parent ≡ n + 1 → (rank m c < b) ⊎ (below ≤ rank m c)) → (k : ℕ) → b ≤ k → k < below → k % 32 < c + 1 → ranked m n k ≡ false

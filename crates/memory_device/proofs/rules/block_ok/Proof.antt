@@ -1,5 +1,6 @@
 -- `memory_device::rules::block_ok` meets its contract. Assumes nothing.
-use Rattle.memory_device.proofs.RuleLaws.{power-none, power-next, power-is, same-end}
+use Rattle.memory_device.proofs.RuleLaws.{power-none, power-next, power-is}
+use Rattle.memory_device.proofs.TableLaws.{same-end}
 use Rattle.memory_device.specs.Device.{powerBelow}
 use lib.Pow.{pow-mono, pow-add}
 use Prim.Native.Nat.{ℕ, _+_, _-_, _*_, _^_, _≤_}
@@ -36,7 +37,7 @@ loop-again c = let l = c .before .before .loop in
     (omega (arith, c .before .loop-test .taken), ap (λ (x : ℕ). x * 2) (l .inv .1) ∙ sym (pow-add 2 (12 + l .k) 1) ∙ ap (λ (x : ℕ). 2 ^ x) (omega arith), power-next _ _ (l .inv .2) (λ e. c .if1 .left (e ∙ sym (l .inv .1))))
 
 returns-2 : tie.Need-returns-2 Inv-loop μ-loop
-returns-2 c = sym (ap (powerBelow (c .before .before .args .block)) (same-end (c .loop-test .left) (c .before .loop .inv .0)) ∙ c .before .loop .inv .2)
+returns-2 c = sym (ap (powerBelow (c .before .before .args .block)) (sym (same-end (c .before .loop .inv .0) (c .loop-test .left))) ∙ c .before .loop .inv .2)
 
 pub block-ok-spec : {M : Type 1} → statement M
 block-ok-spec =

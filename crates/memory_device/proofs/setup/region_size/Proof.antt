@@ -1,5 +1,5 @@
 -- `memory_device::setup::region_size` meets its contract. Assumes nothing.
-use Rattle.memory_device.proofs.RuleLaws.{same-end}
+use Rattle.memory_device.proofs.TableLaws.{same-end}
 use Rattle.memory_device.proofs.SetUpLaws.{managed-here, managed-not}
 use Rattle.memory_device.specs.SetUp.{managedIn}
 use Prim.Native.Nat.{_-_, _≤_}
@@ -37,7 +37,7 @@ loop-again c = let m = c .before .before .before .before .before .args .t1 in
     (omega (arith, c .before .before .before .loop-test .taken), ⊎-elim (λ w. w .1 ∙ sym (managed-here m _ (w .0 .taken))) (λ w. w .1 ∙ c .before .before .before .before .loop .inv .1 ∙ sym (managed-not m _ (w .0 .left))) (c .if1 .came))
 
 returns : tie.Need-returns Inv-loop μ-loop
-returns c = c .before .loop .inv .1 ∙ ap (managedIn (c .before .before .args .t1)) (sym (same-end (c .loop-test .left) (c .before .loop .inv .0)))
+returns c = c .before .loop .inv .1 ∙ ap (managedIn (c .before .before .args .t1)) (same-end (c .before .loop .inv .0) (c .loop-test .left))
 
 pub region-size-spec : {M : Type 1} → statement M
 region-size-spec =

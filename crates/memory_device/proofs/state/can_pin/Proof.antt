@@ -1,5 +1,6 @@
 -- `memory_device::state::can_pin` meets its contract. Assumes nothing.
-use Rattle.memory_device.proofs.RuleLaws.{blocks-bound, and-fst}
+use Rattle.memory_device.proofs.RuleLaws.{blocks-bound}
+use Rattle.region_map.proofs.Bools.{and-fst}
 use Rattle.memory_device.specs.Table.{bitAt}
 use borrow.Author.Tests.{ltb-true}
 use lib.Dec.{ltb}

@@ -1,5 +1,5 @@
 -- `memory_device::state::is_in` meets its contract. Assumes nothing.
-use Rattle.memory_device.proofs.TableLaws.{never}
+use Rattle.region_map.proofs.Bools.{never}
 use Rattle.memory_device.proofs.HostLaws.{past-bit}
 use mathlib.Core.Path.{_≡_, refl, sym, ap, _∙_}
 use borrow.Author.Needs.{needs}

@@ -1,5 +1,5 @@
 -- `memory_device::device::MemoryDevice::pin` meets its contract. Assumes nothing.
-use Rattle.memory_device.proofs.HostLaws.{not-on, not-off}
+use borrow.Author.Tests.{not-true, not-false}
 use Rattle.memory_device.proofs.RuleLaws.{device-valid}
 use Rattle.memory_device.specs.Host.{pinned, pinFault}
 use Prim.Native.Nat.{ℕ}
@@ -28,13 +28,13 @@ with-tables-requires c κs = search needs
 returns : tie.Need-returns
 unfolding pinned
 returns c = let a = c .before .before .before .before .before .before .before .before .before .args in
-    let free : pinFault (a .self) (a .block .0) ≡ false = not-on (pinFault (a .self) (a .block .0)) (sym (c .before .before .before .can-pin .ensures .0) ∙ c .before .before .if2 .taken) in
+    let free : pinFault (a .self) (a .block .0) ≡ false = not-true (pinFault (a .self) (a .block .0)) (sym (c .before .before .before .can-pin .ensures .0) ∙ c .before .before .if2 .taken) in
     rw (sym (c .before .before .before .before .before .before .before .before .device-ok .ensures) ∙ c .before .before .before .before .before .before .before .if1 .taken, free, c .with-tables .ensures, c .before .with-run .ensures)
 
 returns-2 : tie.Need-returns-2
 unfolding pinned
 returns-2 c = let a = c .before .before .before .before .before .before .before .args in
-    let taken : pinFault (a .self) (a .block .0) ≡ true = not-off (pinFault (a .self) (a .block .0)) (sym (c .before .can-pin .ensures .0) ∙ c .if2 .left) in
+    let taken : pinFault (a .self) (a .block .0) ≡ true = not-false (pinFault (a .self) (a .block .0)) (sym (c .before .can-pin .ensures .0) ∙ c .if2 .left) in
     rw (sym (c .before .before .before .before .before .before .device-ok .ensures) ∙ c .before .before .before .before .before .if1 .taken, taken)
 
 returns-3 : tie.Need-returns-3
