@@ -12,4 +12,5 @@ mod ResolveLaws
 mod SweepLaws
 pub mod UniqueLaws
 pub mod ViewLaws
+pub mod Visibility
 pub mod WalkLaws
