@@ -1,4 +1,4 @@
-// The host's calls: 14, 15 and 27, the state after each, and the configuration's bytes.
+// The host's calls: 14, 15 and 27, the state after each, the configuration's bytes, and the block of a byte.
 use crate::devices::worked;
 use crate::show::byte;
 use crate::show::decimal;
@@ -7,6 +7,8 @@ use crate::show::word;
 use memory_device::device;
 use memory_device::device::BlockNumber;
 use memory_device::device::Changed;
+use memory_device::host::ByteBlock;
+use region_map::map::RegionOffset;
 
 fn show(name: &[u8], changed: Changed) {
     let answer = changed.answer;
@@ -96,9 +98,47 @@ fn configuration() {
     word(b"\n");
 }
 
+fn show_block(name: &[u8], found: ByteBlock) {
+    word(name);
+    match found {
+        ByteBlock::At(block) => {
+            let number = block.0;
+            word(b": block ");
+            decimal(number as u64);
+        }
+        ByteBlock::Outside => {
+            word(b": outside");
+        }
+        ByteBlock::Record => {
+            word(b": refused 27");
+        }
+    }
+    word(b"\n");
+}
+
+fn blocks() {
+    show_block(
+        b"block of byte 0xfff",
+        worked(3, 2).block_of_byte(RegionOffset(0xfff)),
+    );
+    show_block(
+        b"block of byte 0x7fff",
+        worked(3, 2).block_of_byte(RegionOffset(0x7fff)),
+    );
+    show_block(
+        b"block of byte 0x8000",
+        worked(3, 2).block_of_byte(RegionOffset(0x8000)),
+    );
+    show_block(
+        b"block of a byte in a broken record",
+        worked(0x40, 0).block_of_byte(RegionOffset(0)),
+    );
+}
+
 pub fn run() {
     sizes();
     pins();
     records();
     configuration();
+    blocks();
 }
