@@ -10,8 +10,8 @@ use lib.Dec.{eqb, leb, ltb}
 use lib.ListN.{getD}
 use borrow.Author.Tests.{le-leb, lt-leb, leb-true, ltb-true, ltb-false, eqb-true, eqb-false, not-false, eq-eqb}
 use Rattle.memory_device.specs.Table.{bitOf, bitAt, within, tableOf, heldIn, bitsIn, setIn, onlyBelow, partOf}
-use Rattle.memory_device.specs.Device.{noBlocks, withTables, setupOk, blockOk, regionOk, addrOk, sizesOk, tablesOk, deviceOk, Valid}
-use Rattle.memory_device.specs.Host.{Outcome, refusal, done, sizeFault, withRequested, resized, pinFault, withBlock, pinned, unpinned, wasReset}
+use Rattle.memory_device.specs.Device.{Outcome, noBlocks, withTables, setupOk, blockOk, regionOk, addrOk, sizesOk, tablesOk, deviceOk, Valid}
+use Rattle.memory_device.specs.Host.{refusal, done, sizeFault, withRequested, resized, pinFault, withBlock, pinned, unpinned, wasReset}
 use Rattle.memory_device.specs.Request.{requestOf, blockOf, inRange, heldOf, plugAnswer, unplugAnswer, unplugAllAnswer, stateAnswer, answered, isAck, withRun, acknowledged, changedBy, carried}
 use Rattle.memory_device.specs.SetUp.{deviceOf}
 use Rattle.memory_device.specs.declared.setup.DeviceValues.{DeviceValues}

@@ -6,8 +6,8 @@ use Prim.Native.Nat.{ℕ, _<_}
 use lib.Dec.{eqb}
 use lib.ListN.{getD}
 use Rattle.memory_device.specs.Table.{bitAt, within, tableOf}
-use Rattle.memory_device.specs.Device.{noBlocks, withTables, fresh, deviceOk}
-use Rattle.memory_device.specs.Host.{Outcome, refusal, done, sizeFault, withRequested, resized, pinFault, withBlock, pinned, unpinned, wasReset}
+use Rattle.memory_device.specs.Device.{Outcome, noBlocks, withTables, fresh, deviceOk}
+use Rattle.memory_device.specs.Host.{refusal, done, sizeFault, withRequested, resized, pinFault, withBlock, pinned, unpinned, wasReset}
 use Rattle.memory_device.specs.Request.{requestOf, blockOf, answered, isAck, withRun, acknowledged, changedBy, carried}
 use Rattle.memory_device.specs.Calls.{Call, request, resize, pin, unpin, reset, called, afterAck, ledgerAfter, after, ledger}
 use Rattle.memory_device.specs.declared.device.MemoryDevice.{MemoryDevice}

@@ -11,7 +11,8 @@ use lib.Dec.{eqb, leb, ltb}
 use lib.Pow.{pow-mono}
 use borrow.Author.Tests.{leb-true, leb-false, ltb-true, lt-ltb, eqb-true, eqb-false, not-true, eq-eqb, ne-eqb}
 use Rattle.memory_device.specs.Table.{bitAt, allBelow, onlyBelow, partOf}
-use Rattle.memory_device.specs.Device.{limit, powerBelow, blockOk, regionOk, addrOk, sizesOk, setupOk, tablesOk, deviceOk, Valid}
+use Rattle.region_map.specs.Fault.{limit}
+use Rattle.memory_device.specs.Device.{powerBelow, blockOk, regionOk, addrOk, sizesOk, setupOk, tablesOk, deviceOk, Valid}
 use Rattle.memory_device.specs.declared.device.MemoryDevice.{MemoryDevice}
 use Rattle.memory_device.proofs.TableLaws.{all-true, all-of}
 use Rattle.region_map.proofs.Bools.{never, and-fst, and-snd, and-off}

@@ -6,12 +6,12 @@ use native.Mathlib.Numerals.{add-one}
 use lib.Dec.{eqb}
 use borrow.Author.Tests.{eq-eqb, ne-eqb}
 use Rattle.region_map.specs.Map.{managed, region}
-use Rattle.region_map.specs.Reply.{Reply, accepted, nodes, place, plain, passes}
+use Rattle.region_map.specs.Reply.{Reply, accepted, plain, passes}
 use Rattle.region_map.specs.Check.{judged, Accepted}
 use Rattle.region_map.specs.declared.map.RegionMap.{RegionMap}
-use Rattle.region_map.proofs.Bools.{never}
+use Rattle.region_map.proofs.Replies.{refused-first}
 use Rattle.memory_device.specs.Device.{setupOk}
-use Rattle.memory_device.specs.SetUp.{managedIn, regionSize, deviceOf, Outcome, refusal, valued, ifAccepted, setUp}
+use Rattle.memory_device.specs.SetUp.{managedIn, regionSize, deviceOf, refusal, valued, setUp}
 use Rattle.memory_device.specs.declared.setup.DeviceValues.{DeviceValues}
 
 pub managed-here : (m : RegionMap) (n : ℕ) → region m n .kind ≡ managed → managedIn m (n + 1) ≡ region m n .size
@@ -35,10 +35,4 @@ module _ (m : RegionMap) (length : ℕ) (v : DeviceValues) where
 
   pub set-up-refused : (r : Reply) → r ≡ judged m length → passes r ≡ false → refusal r ≡ setUp m length v
   unfolding setUp
-  set-up-refused r e p = go r p ∙ ap (λ (j : Reply). ifAccepted j (valued v (regionSize m))) e
-    where
-      go : (r : Reply) → passes r ≡ false → refusal r ≡ ifAccepted r (valued v (regionSize m))
-      go accepted q = absurd (never q)
-      go (nodes k i j) q = refl
-      go (place k p) q = refl
-      go (plain k) q = refl
+  set-up-refused r e p = refused-first refusal (valued v (regionSize m)) r (judged m length) e p

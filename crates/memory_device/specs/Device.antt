@@ -5,15 +5,12 @@ use mathlib.Core.Path.{_≡_}
 use Prim.Native.Nat.{ℕ, zero, suc, _+_, _-_, _*_, _/_, _%_, _^_, _≤_, _<_}
 use lib.Dec.{eqb, leb}
 use lib.ListN.{length, getD, replicate}
+use Rattle.region_map.specs.Fault.{limit}
 use Rattle.region_map.specs.Reply.{Reply, accepted, plain}
 use Rattle.memory_device.specs.Table.{bitAt, setIn, onlyBelow, partOf}
 use Rattle.memory_device.specs.declared.device.MemoryDevice.{MemoryDevice}
 use Rattle.memory_device.specs.declared.device.HostAnswer.{HostAnswer}
 use Rattle.memory_device.specs.declared.device.HostAnswer.the-variants as answer
-
--- the largest end of a region
-abbrev pub limit : ℕ
-limit = 2 ^ 48
 
 -- b is one of 2^12, 2^13, .. below 2^(12 + n)
 unfoldable pub powerBelow : ℕ → ℕ → Bool
@@ -78,6 +75,11 @@ hostReply answer.Done = accepted
 hostReply answer.Size = plain 14
 hostReply answer.Pin = plain 15
 hostReply answer.Record = plain 27
+
+-- document 01's answer, and the next state
+pub record Outcome : Type 0 where
+  pub reply : Reply
+  pub device : MemoryDevice
 
 -- what a valid record is to those who use it
 pub record Valid (d : MemoryDevice) : Type 0 where

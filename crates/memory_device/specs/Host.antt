@@ -7,16 +7,12 @@ use lib.ListN.{replicate}
 use Rattle.region_map.specs.Reply.{Reply, accepted, plain}
 use Rattle.memory_device.specs.Bytes.{configurationBytes}
 use Rattle.memory_device.specs.Table.{bitAt, within, tableOf}
-use Rattle.memory_device.specs.Device.{withTables, fresh, pluggedSize, deviceOk, hostReply}
+use Rattle.memory_device.specs.Device.{Outcome, withTables, fresh, pluggedSize, deviceOk, hostReply}
 use Rattle.memory_device.specs.declared.device.MemoryDevice.{MemoryDevice}
 use Rattle.memory_device.specs.declared.device.Changed.{Changed}
 use Rattle.memory_device.specs.declared.host.Configuration.{Configuration}
 use Rattle.memory_device.specs.declared.host.ByteBlock.{ByteBlock}
 use Rattle.memory_device.specs.declared.host.ByteBlock.the-variants.{At, Outside, Record}
-
-pub record Outcome : Type 0 where
-  pub reply : Reply
-  pub device : MemoryDevice
 
 abbrev pub outcomeOf : Changed → Outcome
 outcomeOf c = record { reply = hostReply (c .answer); device = c .device }

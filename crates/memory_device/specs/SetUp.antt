@@ -3,10 +3,10 @@ use mathlib.Core.Bool.{Bool, true, false, cond}
 use Prim.Native.Nat.{ℕ, zero, suc}
 use lib.Dec.{eqb}
 use Rattle.region_map.specs.Map.{managed, region}
-use Rattle.region_map.specs.Reply.{Reply, accepted, nodes, place, plain}
+use Rattle.region_map.specs.Reply.{Reply, accepted, plain, ifAccepted}
 use Rattle.region_map.specs.Check.{reply, judged}
 use Rattle.region_map.specs.declared.map.RegionMap.{RegionMap}
-use Rattle.memory_device.specs.Device.{noBlocks, setupOk}
+use Rattle.memory_device.specs.Device.{Outcome, noBlocks, setupOk}
 use Rattle.memory_device.specs.declared.device.MemoryDevice.{MemoryDevice}
 use Rattle.memory_device.specs.declared.setup.DeviceValues.{DeviceValues}
 use Rattle.memory_device.specs.declared.setup.SetUpAnswer.{SetUpAnswer}
@@ -40,10 +40,6 @@ abbrev pub noDevice : MemoryDevice
 noDevice =
     record { «block_size» = 0; addr = 0; «region_size» = 0; «usable_size» = 0; «requested_size» = 0; plugged = noBlocks; pinned = noBlocks }
 
-pub record Outcome : Type 0 where
-  pub reply : Reply
-  pub device : MemoryDevice
-
 abbrev pub refusal : Reply → Outcome
 refusal r = record { reply = r; device = noDevice }
 
@@ -54,14 +50,8 @@ valued v region =
     (record { reply = accepted; device = deviceOf v region }) (refusal (plain 13))
 
 -- the map is judged first
-abbrev pub ifAccepted : Reply → Outcome → Outcome
-ifAccepted accepted o = o
-ifAccepted (nodes k i j) o = refusal (nodes k i j)
-ifAccepted (place k p) o = refusal (place k p)
-ifAccepted (plain k) o = refusal (plain k)
-
 unfoldable pub setUp : RegionMap → ℕ → DeviceValues → Outcome
-setUp m length v = ifAccepted (judged m length) (valued v (regionSize m))
+setUp m length v = ifAccepted (judged m length) refusal (valued v (regionSize m))
 
 -- document 01's number for each answer
 abbrev pub setUpReply : SetUpAnswer → Reply

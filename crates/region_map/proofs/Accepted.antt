@@ -113,7 +113,7 @@ sibling-apart a b e x y z =
 module _ (m : RegionMap) (length : ℕ) where
   -- every rule lets the map pass
   record Passed : Type 0 where
-    count : countFault m ≡ false
+    count : countFault (m .count) ≡ false
     kinds : (n : ℕ) → n < m .count → fault node.Kind m length n ≡ false
     fields : (n : ℕ) → n < m .count → fault node.Field m length n ≡ false
     links : (n : ℕ) → n < m .count → fault node.Link m length n ≡ false
@@ -122,7 +122,7 @@ module _ (m : RegionMap) (length : ℕ) where
 
   -- the rules up to each
   abbrev to-3 : Reply
-  to-3 = cond (countFault m) (nodes 3 0 0) accepted
+  to-3 = cond (countFault (m .count)) (nodes 3 0 0) accepted
 
   abbrev to-4 : Reply
   to-4 = to-3 then lowest 4 (fault node.Kind m length) (m .count)
@@ -157,7 +157,7 @@ module _ (m : RegionMap) (length : ℕ) where
       let e-4 = then-left to-4 (lowest 6 (fault node.Field m length) (m .count)) e-6 in
       let e-3 = then-left to-3 (lowest 4 (fault node.Kind m length) (m .count)) e-4 in
       record {
-        count = unchosen (countFault m) e-3;
+        count = unchosen (countFault (m .count)) e-3;
         kinds = lowest-all (fault node.Kind m length) 4 (m .count) (then-right to-3 (lowest 4 (fault node.Kind m length) (m .count)) e-4);
         fields = lowest-all (fault node.Field m length) 6 (m .count) (then-right to-4 (lowest 6 (fault node.Field m length) (m .count)) e-6);
         links = lowest-all (fault node.Link m length) 7 (m .count) (then-right to-6 (lowest 7 (fault node.Link m length) (m .count)) e-7);

@@ -8,6 +8,7 @@ mod Found
 pub mod LeafLaws
 mod PushLaws
 mod RangeTests
+pub mod Replies
 mod ResolveLaws
 mod SweepLaws
 pub mod UniqueLaws

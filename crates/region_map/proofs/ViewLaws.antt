@@ -21,10 +21,11 @@ use Rattle.region_map.specs.declared.view.FlatView.{FlatView}
 use Rattle.region_map.specs.declared.flat.Pushed.{Pushed}
 use Rattle.region_map.specs.FlatList.{joins, grown, after, push, extend, flat, lookup}
 use Rattle.region_map.specs.Span.{shift}
-use Rattle.region_map.specs.Flatten.{entries, noRange, Blank, Grew, viewOf, Outcome, refusal, listed, ifSound, flatList, flattened}
+use Rattle.region_map.specs.Flatten.{entries, noRange, Blank, Grew, viewOf, Outcome, refusal, listed, flatList, flattened}
 use Rattle.region_map.specs.Reply.{Reply, accepted, nodes, place, plain, passes}
 use Rattle.region_map.specs.Check.{judged, Accepted}
 use Rattle.region_map.specs.declared.map.RegionMap.{RegionMap}
+use Rattle.region_map.proofs.Replies.{refused-first}
 use Rattle.region_map.proofs.Bools.{never}
 use Rattle.region_map.proofs.PushLaws.{after-on, after-off}
 use Rattle.region_map.proofs.FlatLaws.{flat-grows, sweep-step}
@@ -190,10 +191,4 @@ flat-made m length o ok e = rw (ok, e)
 pub flat-refused : (m : RegionMap) (length : ℕ) (r : Reply) (v : FlatView) → r ≡ judged m length → passes r ≡ false → v ≡ viewOf []
     → record { reply = r; view = v } ≡ flattened m length
 unfolding flattened
-flat-refused m length r v e p h = rw h (go r p ∙ ap (λ (j : Reply). ifSound j (listed (flatList m))) e)
-  where
-    go : (r : Reply) → passes r ≡ false → refusal r ≡ ifSound r (listed (flatList m))
-    go accepted q = absurd (never q)
-    go (nodes k i j) q = refl
-    go (place k p) q = refl
-    go (plain k) q = refl
+flat-refused m length r v e p h = rw h (refused-first refusal (listed (flatList m)) r (judged m length) e p)

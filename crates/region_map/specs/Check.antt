@@ -28,14 +28,14 @@ reply (answer.Managed i j) = nodes 9 i j
 reply (answer.Port i j) = nodes 10 i j
 reply (answer.Overlap i j) = nodes 11 i j
 
--- 3: 'node count 0 or over 32', node 0 twice
-abbrev pub countFault : RegionMap → Bool
-countFault m = eqb (m .count) 0 || ltb 32 (m .count)
+-- 3: 'node count 0 or over 32'
+abbrev pub countFault : ℕ → Bool
+countFault n = eqb n 0 || ltb 32 n
 
 -- 'A call that is given a map repeats 3 (node 0 twice), 4 (the node twice) and 6 to 11', each over the whole map; 'in 8, ends past the memory come before pairs'
 unfoldable pub judged : RegionMap → ℕ → Reply
 judged m length =
-    cond (countFault m) (nodes 3 0 0) accepted
+    cond (countFault (m .count)) (nodes 3 0 0) accepted
     then lowest 4 (fault node.Kind m length) (m .count)
     then lowest 6 (fault node.Field m length) (m .count)
     then lowest 7 (fault node.Link m length) (m .count)

@@ -15,8 +15,8 @@ abbrev pub limit : ℕ
 limit = 2 ^ 48
 
 -- 4: 'kind over 4'
-abbrev pub kindFault : Region → Bool
-kindFault r = ltb managed (r .kind)
+abbrev pub kindFault : ℕ → Bool
+kindFault kind = ltb managed kind
 
 -- 6: 'a field that the kind lacks not 0'
 abbrev pub extra : Region → Field → Bool
@@ -68,7 +68,7 @@ memoryFault length r = backed r && ltb length (r .«memory_start» + r .size)
 
 -- the rule that a search over the regions goes by
 abbrev pub fault : NodeRule → RegionMap → ℕ → ℕ → Bool
-fault rule.Kind m length n = kindFault (region m n)
+fault rule.Kind m length n = kindFault (region m n .kind)
 fault rule.Field m length n = fieldFault (region m n)
 fault rule.Link m length n = linkFault m n
 fault rule.Memory m length n = memoryFault length (region m n)

@@ -6,7 +6,7 @@ use Prim.Native.Nat.{ℕ, _+_, _-_, _≤_, _<_}
 use lib.Dec.{eqb, ltb}
 use lib.ListN.{length, take, drop, replicate}
 use Rattle.region_map.specs.Map.{mmio, region}
-use Rattle.region_map.specs.Reply.{Reply, accepted, nodes, place, plain}
+use Rattle.region_map.specs.Reply.{Reply, accepted, plain, ifAccepted}
 use Rattle.region_map.specs.Check.{reply, judged}
 use Rattle.region_map.specs.Walk.{walkRoot}
 use Rattle.region_map.specs.FlatList.{flat, lookup, Longest}
@@ -53,16 +53,9 @@ refusal r = record { reply = r; view = viewOf [] }
 unfoldable pub listed : List FlatRange → Outcome
 listed l = cond (ltb 256 (length l)) (refusal (plain 12)) (record { reply = accepted; view = viewOf l })
 
--- 3, 4 and 6 to 11 come first
-abbrev pub ifSound : Reply → Outcome → Outcome
-ifSound accepted o = o
-ifSound (nodes k i j) o = refusal (nodes k i j)
-ifSound (place k p) o = refusal (place k p)
-ifSound (plain k) o = refusal (plain k)
-
--- the given map m over a memory of `length` bytes
+-- the given map m over a memory of `length` bytes: 3, 4 and 6 to 11 come first
 unfoldable pub flattened : RegionMap → ℕ → Outcome
-flattened m length = ifSound (judged m length) (listed (flatList m))
+flattened m length = ifAccepted (judged m length) refusal (listed (flatList m))
 
 -- document 01's number for each answer
 abbrev pub flatReply : FlatAnswer → Reply

@@ -18,6 +18,13 @@ nodes k i j then b = nodes k i j
 place k p then b = place k p
 plain k then b = plain k
 
+-- what follows where nothing is refused, else what a refusal gives
+abbrev pub ifAccepted : {A : Type 0} → Reply → (Reply → A) → A → A
+ifAccepted accepted refusal x = x
+ifAccepted (nodes k i j) refusal x = refusal (nodes k i j)
+ifAccepted (place k p) refusal x = refusal (place k p)
+ifAccepted (plain k) refusal x = refusal (plain k)
+
 -- the first refusal of f 0, f 1, .. below n
 unfoldable pub first : (ℕ → Reply) → ℕ → Reply
 first f zero = accepted

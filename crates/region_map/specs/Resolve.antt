@@ -1,6 +1,6 @@
 -- The walk of a given map at a guest address. Assumes nothing: these are definitions.
 use Prim.Native.Nat.{ℕ}
-use Rattle.region_map.specs.Reply.{Reply, accepted, nodes, place, plain}
+use Rattle.region_map.specs.Reply.{Reply, ifAccepted}
 use Rattle.region_map.specs.Check.{reply, judged}
 use Rattle.region_map.specs.Walk.{walkRoot}
 use Rattle.region_map.specs.declared.map.RegionMap.{RegionMap}
@@ -13,16 +13,9 @@ pub data Led : Type 0 where
   refused : Reply → Led
   leads : Resolved → Led
 
--- an accepted map answers
-abbrev pub ifAccepted : Reply → Resolved → Led
-ifAccepted accepted x = leads x
-ifAccepted (nodes k i j) x = refused (nodes k i j)
-ifAccepted (place k p) x = refused (place k p)
-ifAccepted (plain k) x = refused (plain k)
-
 -- the given map m over a memory of `length` bytes, at the guest address a
 unfoldable pub resolved : RegionMap → ℕ → ℕ → Led
-resolved m length a = ifAccepted (judged m length) (walkRoot m a)
+resolved m length a = ifAccepted (judged m length) refused (leads (walkRoot m a))
 
 -- what the public walk answers
 abbrev pub ledBy : Resolution → Led

@@ -12,6 +12,7 @@ use Rattle.region_map.proofs.Bools.{or-right}
 use Rattle.region_map.specs.Reply.{Reply, accepted, nodes, place, plain, passes}
 use Rattle.region_map.specs.declared.map.Region.{Region}
 use Rattle.region_map.specs.declared.map.RegionMap.{RegionMap}
+use Rattle.region_map.proofs.Replies.{refused-first}
 use Rattle.sheet.specs.Answer.{Read, got, refused, next}
 use Rattle.sheet.specs.Number.{number}
 use Rattle.sheet.specs.Region.{regionAt}
@@ -42,10 +43,7 @@ checked-passed m (place k q) j e p = absurd (let z : _≡_ {A = ℕ} 0 1 = cc in
 checked-passed m (plain k) j e p = absurd (let z : _≡_ {A = ℕ} 0 1 = cc in omega arith)
 
 pub checked-refused : (m : RegionMap) (r j : Reply) → r ≡ j → passes r ≡ false → refusal r ≡ checked m j
-checked-refused m accepted j e p = absurd (let z : _≡_ {A = ℕ} 0 1 = cc in omega arith)
-checked-refused m (nodes k i l) j e p = rw (← e)
-checked-refused m (place k q) j e p = rw (← e)
-checked-refused m (plain k) j e p = rw (← e)
+checked-refused m r j e p = refused-first refusal (record { reply = accepted; map = m }) r j e p
 
 module _ (s : List ℕ) (memory : ℕ) where
   pub sheet-number : (a : Reply) → number s 0 ≡ refused a → refusal a ≡ readSheet s memory

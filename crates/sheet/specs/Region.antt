@@ -2,8 +2,8 @@
 use mathlib.Core.Bool.{cond}
 use mathlib.Core.List.{List, [], _∷_}
 use Prim.Native.Nat.{ℕ}
-use lib.Dec.{ltb}
-use Rattle.region_map.specs.Map.{managed, has, withValue}
+use Rattle.region_map.specs.Map.{has, withValue}
+use Rattle.region_map.specs.Fault.{kindFault}
 use Rattle.region_map.specs.Reply.{place}
 use Rattle.region_map.specs.declared.map.Region.{Region}
 use Rattle.region_map.specs.declared.map.Field.{Field}
@@ -32,7 +32,7 @@ ofKind k = record { kind = k; parent = 0; offset = 0; size = 0; priority = 0; «
 
 -- a region at a place: 4 at the kind's first byte, at once
 unfoldable pub regionAt : List ℕ → ℕ → Read Region
-regionAt s at = next (number s at) (λ k then. cond (ltb managed k) (refused (place 4 at)) (fieldsFrom s sheetFields (ofKind k) then))
+regionAt s at = next (number s at) (λ k then. cond (kindFault k) (refused (place 4 at)) (fieldsFrom s sheetFields (ofKind k) then))
 
 -- what the reader of one region answers
 abbrev pub regionOf : RegionRead → Read Region

@@ -1,12 +1,12 @@
 -- The whole sheet: 'First the node count, then for each node ..', left to right; then the check of the map. Assumes nothing: these are definitions.
-use mathlib.Core.Bool.{cond, _||_}
+use mathlib.Core.Bool.{cond}
 use mathlib.Core.List.{List}
 use Prim.Native.Nat.{ℕ, zero, suc}
-use lib.Dec.{eqb, ltb}
+use lib.Dec.{ltb}
 use lib.ListN.{length, replicate, set}
 use Rattle.region_map.specs.Map.{noRegion, emptyMap}
-use Rattle.region_map.specs.Reply.{Reply, accepted, nodes, place, plain}
-use Rattle.region_map.specs.Check.{judged}
+use Rattle.region_map.specs.Reply.{Reply, accepted, place, ifAccepted}
+use Rattle.region_map.specs.Check.{countFault, judged}
 use Rattle.region_map.specs.declared.map.Region.{Region}
 use Rattle.region_map.specs.declared.map.RegionMap.{RegionMap}
 use Rattle.sheet.specs.Answer.{Read, got, refused, next, sheetReply}
@@ -31,7 +31,7 @@ regionsFrom s (suc k) n m at = next (regionAt s at) (λ r then. regionsFrom s k 
 
 -- the map of a sheet, without what may follow it: 3 at the count's first byte, at once
 unfoldable pub mapAt : List ℕ → Read RegionMap
-mapAt s = next (number s 0) (λ n then. cond (eqb n 0 || ltb 32 n) (refused (place 3 0)) (regionsFrom s n 0 (blankMap n) then))
+mapAt s = next (number s 0) (λ n then. cond (countFault n) (refused (place 3 0)) (regionsFrom s n 0 (blankMap n) then))
 
 -- document 01's answer, and the map: the empty map with every refusal
 pub record Outcome : Type 0 where
@@ -43,10 +43,7 @@ refusal r = record { reply = r; map = emptyMap }
 
 -- 'Then 6 to 11 in order'
 abbrev pub checked : RegionMap → Reply → Outcome
-checked m accepted = record { reply = accepted; map = m }
-checked m (nodes k i j) = refusal (nodes k i j)
-checked m (place k p) = refusal (place k p)
-checked m (plain k) = refusal (plain k)
+checked m r = ifAccepted r refusal (record { reply = accepted; map = m })
 
 -- 5: 'bytes remain', at the first left over
 abbrev pub finished : List ℕ → ℕ → Read RegionMap → Outcome
