@@ -1,5 +1,5 @@
 -- Laws of the answers to requests. Assumes nothing.
-use mathlib.Core.Path.{_≡_, refl, sym, ap, ap₂, _∙_}
+use mathlib.Core.Path.{_≡_, refl, sym, ap, _∙_}
 use mathlib.Core.Bool.{Bool, true, false, cond, _&&_}
 use Prim.Native.Nat.{ℕ, _+_, _-_, _*_, _%_, _≤_, _<_}
 use native.Mathlib.Omega.{arith}
@@ -7,16 +7,17 @@ use native.Mathlib.Nat.{mul-le-mul, le-of-mul-le-mul-right, add-mul, div-mul-le-
 use lib.Dec.{eqb, leb}
 use borrow.Author.Tests.{le-leb, lt-leb, leb-true, eqb-true, eqb-false, eq-eqb, ne-eqb}
 use Rattle.memory_device.specs.Table.{bitAt, within, tableOf}
-use Rattle.memory_device.specs.Device.{noBlocks, withTables, deviceOk, Valid}
+use Rattle.memory_device.specs.Device.{noBlocks, withTables, deviceOk, Sized, sized}
 use Rattle.memory_device.specs.Bytes.{responseBytes}
 use Rattle.region_map.specs.Reply.{accepted}
 use mathlib.Core.List.{List}
-use Rattle.memory_device.specs.Request.{blockOf, inRange, plugAnswer, unplugAnswer, unplugAllAnswer, heldOf, stateAnswer, answered, withRun, isAck, acknowledged, changedBy, requestOf, typeOf, stateOf, Outcome, carried}
+use Rattle.memory_device.specs.Request.{blockOf, inRange, plugAnswer, unplugAnswer, unplugAllAnswer, heldOf, stateAnswer, answered, withRun, isAck, acknowledged, changedBy, requestOf, typeOf, stateOf, Outcome, carriedOut, carried, responded}
 use Rattle.memory_device.specs.declared.request.Response.{Response}
 use Rattle.memory_device.specs.declared.request.Response.the-variants as response
 use Rattle.memory_device.specs.declared.device.MemoryDevice.{MemoryDevice}
 use Rattle.memory_device.specs.declared.request.Request.{Request}
-use Rattle.memory_device.proofs.RuleLaws.{sum-within}
+use Rattle.memory_device.specs.declared.request.Responded.{Responded}
+use Rattle.memory_device.proofs.RuleLaws.{sum-within, valid-sized}
 use Rattle.region_map.proofs.Bools.{never, and-fst, and-snd, and-off}
 
 -- the range rule where the address is below the region, where the offset alone is past the usable part, and else
@@ -57,7 +58,7 @@ module _ (d : MemoryDevice) (r : Request) where
   in-test h k = range-test ahead (d .addr) (r .addr .0) (d .«usable_size») (r .blocks * d .«block_size») h k
 
 -- a request in range has its blocks in the table
-module _ (d : MemoryDevice) (r : Request) (v : Valid d) (h : inRange d r ≡ true) where
+module _ (d : MemoryDevice) (r : Request) (z : Sized d) (h : inRange d r ≡ true) where
   in-above : d .addr ≤ r .addr .0
   in-above =
       leb-true (d .addr) (r .addr .0)
@@ -80,12 +81,11 @@ module _ (d : MemoryDevice) (r : Request) (v : Valid d) (h : inRange d r ≡ tru
   in-blocks =
       let b = d .«block_size» in
       let k = blockOf d (r .addr .0) in
-      let pos : 0 < d .«block_size» = omega (arith, v .least) in
       le-of-mul-le-mul-right
-      (omega (arith, add-mul k (r .blocks) b, div-mul-le-self (r .addr .0 - d .addr) b, in-end, v .usable, v .blocks)) pos
+      (omega (arith, add-mul k (r .blocks) b, div-mul-le-self (r .addr .0 - d .addr) b, in-end, z .room)) (z .some)
 
   pub in-facts : (0 < d .«block_size») × (d .addr ≤ r .addr .0) × (blockOf d (r .addr .0) < 1024)
-  in-facts = (omega (arith, v .least), in-above, omega (arith, in-blocks, in-some))
+  in-facts = (z .some, in-above, omega (arith, in-blocks, in-some))
 
   pub in-room : blockOf d (r .addr .0) + r .blocks ≤ 1024
   in-room = in-blocks
@@ -185,13 +185,22 @@ table-run d r from e n f = go (eqb (r .kind) 0) refl
     go false h =
         rw (eq-eqb (r .kind) 1 (f (eqb-false (r .kind) 0 h))) (ap (λ (k : ℕ). tableOf (λ b. cond (within k (r .blocks) b) false (bitAt (d .plugged) b))) e)
 
--- a request carried out, from its parts
-module _ (d : MemoryDevice) (s : List ℕ) (ok : deviceOk d ≡ true) where
-  pub carried-done : (q : Request) (x : Response) (next : MemoryDevice) (out : List ℕ) (kind state : ℕ) → q ≡ requestOf s → x ≡ answered d q → next ≡ changedBy d q (answered d q)
-      → kind ≡ typeOf x → state ≡ stateOf x → out ≡ responseBytes kind state → record { reply = accepted; response = out; device = next } ≡ carried d s
-  unfolding carried
-  carried-done q x next out kind state e f g h k o =
-      rw (ok, ← e, ← f) (parts (o ∙ ap₂ responseBytes h k) (g ∙ ap (changedBy d q) (sym f)))
-    where
-      parts : {a b : List ℕ} {m n : MemoryDevice} → a ≡ b → m ≡ n → _≡_ {A = Outcome} (record { reply = accepted; response = a; device = m }) (record { reply = accepted; response = b; device = n })
-      parts p r = λ i. record { reply = accepted; response = p i; device = r i }
+-- a request carried out on a record of fit sizes, from its parts
+pub responded-done : (d : MemoryDevice) (s : List ℕ) → sized d ≡ true → (q : Request) (x : Response) (next : MemoryDevice) (out : List ℕ) → q ≡ requestOf s → x ≡ answered d q
+    → next ≡ changedBy d q (answered d q) → out ≡ responseBytes (typeOf x) (stateOf x) → _≡_ {A = Responded} (record { response = out; device = next }) (responded d s)
+unfolding responded
+responded-done d s z q x next out e f g o = rw (z, ← e, ← f) (parts o (g ∙ ap (changedBy d q) (sym f)))
+  where
+    parts : {a b : List ℕ} {m n : MemoryDevice} → a ≡ b → m ≡ n → _≡_ {A = Responded} (record { response = a; device = m }) (record { response = b; device = n })
+    parts p r = λ i. record { response = p i; device = r i }
+
+-- on a valid record it is carried out
+pub responded-valid : (d : MemoryDevice) (s : List ℕ) → deviceOk d ≡ true
+    → responded d s ≡ record { response = carriedOut d (requestOf s) .response; device = carriedOut d (requestOf s) .device }
+unfolding responded
+responded-valid d s h = rw (valid-sized d h)
+
+pub carried-done : (d : MemoryDevice) (s : List ℕ) → deviceOk d ≡ true → (r : Responded) → r ≡ responded d s
+    → _≡_ {A = Outcome} (record { reply = accepted; response = r .response; device = r .device }) (carried d s)
+unfolding carried
+carried-done d s h r e = rw (h, e, responded-valid d s h)

@@ -21,7 +21,7 @@ use Rattle.memory_device.proofs.TableLaws.{table-bit, held-none, zero-b
 use Rattle.region_map.proofs.Bools.{never, and-fst, and-snd, or-left, or-right}
 use Rattle.memory_device.proofs.AnswerLaws.{in-end, ack-range, ack-kind, all-answer, unplug-answer}
 use Rattle.memory_device.specs.declared.request.Response.the-variants as response
-use Rattle.memory_device.proofs.RuleLaws.{only-of, part-of, setup-ruled, device-valid, blocks-mono}
+use Rattle.memory_device.proofs.RuleLaws.{only-of, part-of, setup-ruled, device-valid, valid-sizes, blocks-mono}
 
 -- the setup part of a record that keeps its rules
 setup-of : (d : MemoryDevice) → deviceOk d ≡ true → setupOk (d .«block_size») (d .addr) (d .«region_size») (d .«usable_size») (d .«requested_size») ≡ true
@@ -192,7 +192,7 @@ module _ (d : MemoryDevice) (r : Request) (h : deviceOk d ≡ true) (i : inRange
       let k = blockOf d (r .addr .0) in
       let z = inside-run k (r .blocks) b w in
       le-div-iff-mul-le (let p : 0 < s = omega (arith, v .least) in p) .1
-      (omega (arith, mul-le-mul-right s (let q : suc b ≤ k + r .blocks = omega arith in q), add-mul k (r .blocks) s, div-mul-le-self (r .addr .0 - d .addr) s, in-end d r v i))
+      (omega (arith, mul-le-mul-right s (let q : suc b ≤ k + r .blocks = omega arith in q), add-mul k (r .blocks) s, div-mul-le-self (r .addr .0 - d .addr) s, in-end d r (valid-sizes d v) i))
 
   run-unpinned : heldOf d r (d .pinned) ≡ 0 → (b : ℕ) → within (blockOf d (r .addr .0)) (r .blocks) b ≡ true → bitAt (d .pinned) b ≡ false
   run-unpinned n b w =

@@ -1,10 +1,10 @@
-mod AnswerLaws
+pub mod AnswerLaws
 pub mod Answers
 pub mod ByteLaws
 mod HostLaws
 pub mod Kept
 pub mod Plugged
-mod RuleLaws
+pub mod RuleLaws
 mod SetUpLaws
 pub mod TableLaws
 pub mod Worked

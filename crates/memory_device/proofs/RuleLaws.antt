@@ -9,10 +9,10 @@ use native.Mathlib.Numerals.{add-one}
 use native.Mathlib.Omega.{arith}
 use lib.Dec.{eqb, leb, ltb}
 use lib.Pow.{pow-mono}
-use borrow.Author.Tests.{leb-true, leb-false, ltb-true, lt-ltb, eqb-true, eqb-false, not-true, eq-eqb, ne-eqb}
+use borrow.Author.Tests.{le-leb, leb-true, leb-false, ltb-true, lt-ltb, eqb-true, eqb-false, not-true, eq-eqb, ne-eqb}
 use Rattle.memory_device.specs.Table.{bitAt, allBelow, onlyBelow, partOf}
 use Rattle.region_map.specs.Fault.{limit}
-use Rattle.memory_device.specs.Device.{powerBelow, blockOk, regionOk, addrOk, sizesOk, setupOk, tablesOk, deviceOk, Valid}
+use Rattle.memory_device.specs.Device.{powerBelow, blockOk, regionOk, addrOk, sizesOk, setupOk, tablesOk, deviceOk, Valid, Sized, sized}
 use Rattle.memory_device.specs.declared.device.MemoryDevice.{MemoryDevice}
 use Rattle.memory_device.proofs.TableLaws.{all-true, all-of}
 use Rattle.region_map.proofs.Bools.{never, and-fst, and-snd, and-off}
@@ -179,3 +179,25 @@ device-valid d h =
       inside = only-true (d .plugged) (d .«usable_size» / b) (and-snd two (onlyBelow (d .plugged) (d .«usable_size» / b)) (and-fst three (partOf (d .pinned) (d .plugged)) t));
       held = part-true (d .pinned) (d .plugged) (and-snd three (partOf (d .pinned) (d .plugged)) t);
     }
+
+-- the sizes that carrying out a request needs: their test, and those of a valid record
+pub sized-of : (d : MemoryDevice) → sized d ≡ true → Sized d
+unfolding sized
+sized-of d h =
+    let b = d .«block_size» in
+    let two = and-fst (leb 1 b && leb b 1073741824) (leb (d .«usable_size») (1024 * b)) h in
+    record {
+      some = leb-true 1 b (and-fst (leb 1 b) (leb b 1073741824) two);
+      most = leb-true b 1073741824 (and-snd (leb 1 b) (leb b 1073741824) two);
+      room = leb-true (d .«usable_size») (1024 * b) (and-snd (leb 1 b && leb b 1073741824) (leb (d .«usable_size») (1024 * b)) h);
+    }
+
+pub valid-sizes : (d : MemoryDevice) → Valid d → Sized d
+valid-sizes d v = record { some = omega (arith, v .least); most = v .most; room = omega (arith, v .usable, v .blocks) }
+
+pub valid-sized : (d : MemoryDevice) → deviceOk d ≡ true → sized d ≡ true
+unfolding sized
+valid-sized d h =
+    let z = valid-sizes d (device-valid d h) in
+    let b = d .«block_size» in
+    rw (le-leb 1 b (z .some), le-leb b 1073741824 (z .most), le-leb (d .«usable_size») (1024 * b) (z .room))

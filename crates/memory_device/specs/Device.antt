@@ -96,3 +96,12 @@ pub record Valid (d : MemoryDevice) : Type 0 where
   pub «whole-requested» : d .«requested_size» % d .«block_size» ≡ 0
   pub inside : (b : ℕ) → b < 1024 → bitAt (d .plugged) b ≡ true → b < d .«usable_size» / d .«block_size»
   pub held : (b : ℕ) → b < 1024 → bitAt (d .pinned) b ≡ true → bitAt (d .plugged) b ≡ true
+
+-- what carrying out a request needs of a record, and its test
+pub record Sized (d : MemoryDevice) : Type 0 where
+  pub some : 0 < d .«block_size»
+  pub most : d .«block_size» ≤ 2 ^ 30
+  pub room : d .«usable_size» ≤ 1024 * d .«block_size»
+
+unfoldable pub sized : MemoryDevice → Bool
+sized d = leb 1 (d .«block_size») && leb (d .«block_size») 1073741824 && leb (d .«usable_size») (1024 * d .«block_size»)

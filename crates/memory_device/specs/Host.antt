@@ -88,6 +88,10 @@ readOf c = record { reply = hostReply (c .answer); bytes = c .bytes }
 abbrev pub blockOfByte : MemoryDevice → ℕ → ℕ
 blockOfByte d o = o / d .«block_size»
 
+-- is the byte at an offset of the managed region in a plugged block? A division by 0 gives 0
+abbrev pub pluggedAt : MemoryDevice → ℕ → Bool
+pluggedAt d o = bitAt (d .plugged) (blockOfByte d o)
+
 -- the block of a byte of the region, or that the byte lies outside it, or 27
 pub data ByteIn : Type 0 where
   block : ℕ → ByteIn

@@ -7,12 +7,13 @@ use lib.ListN.{replicate}
 use Rattle.region_map.specs.Reply.{Reply, accepted, plain}
 use Rattle.memory_device.specs.Bytes.{number, responseBytes}
 use Rattle.memory_device.specs.Table.{bitAt, within, tableOf, heldIn, setIn}
-use Rattle.memory_device.specs.Device.{noBlocks, withTables, pluggedSize, deviceOk, hostReply}
+use Rattle.memory_device.specs.Device.{noBlocks, withTables, pluggedSize, deviceOk, hostReply, sized}
 use Rattle.memory_device.specs.declared.device.MemoryDevice.{MemoryDevice}
 use Rattle.memory_device.specs.declared.request.Request.{Request}
 use Rattle.memory_device.specs.declared.request.Response.{Response}
 use Rattle.memory_device.specs.declared.request.Response.the-variants as response
 use Rattle.memory_device.specs.declared.request.Carried.{Carried}
+use Rattle.memory_device.specs.declared.request.Responded.{Responded}
 
 -- 'Types PLUG 0, UNPLUG 1, UNPLUG ALL 2, STATE 3'
 abbrev pub plug : ℕ
@@ -134,3 +135,9 @@ carried d s = cond (deviceOk d) (carriedOut d (requestOf s)) (record { reply = p
 
 abbrev pub outcomeOf : Carried → Outcome
 outcomeOf c = record { reply = hostReply (c .answer); response = c .response; device = c .device }
+
+-- a request carried out on a record that was judged before: 27 is not judged again; a record whose sizes are past SETUP's bounds gets ERROR, so that every record has an answer
+unfoldable pub responded : MemoryDevice → List ℕ → Responded
+responded d s =
+    cond (sized d) (record { response = carriedOut d (requestOf s) .response; device = carriedOut d (requestOf s) .device })
+    (record { response = responseBytes (typeOf response.Error) (stateOf response.Error); device = d })

@@ -1,9 +1,9 @@
-// What a request is answered on a valid record: the range rule, the checks in their order, and the
-// change of the table.
+// What a request is answered on a record whose sizes are in SETUP's bounds: the range rule, the
+// checks in their order, and the change of the table.
 ghost use mathlib.Core.Path.{_≡_};
 ghost use mathlib.Core.Bool.{true};
 ghost use Prim.Native.Nat.{_+_, _≤_, _<_};
-ghost use Rattle.memory_device.specs.Device.{Valid};
+ghost use Rattle.memory_device.specs.Device.{Sized};
 ghost use Rattle.memory_device.specs.Request.{typeOf, stateOf, blockOf, inRange, plugAnswer, unplugAnswer, unplugAllAnswer, stateAnswer, answered, isAck, acknowledged, changedBy};
 use crate::device::BlockNumber;
 use crate::device::MemoryDevice;
@@ -60,7 +60,7 @@ pub fn state_of(response: Response) -> u16
 
 // Is the request aligned, of a block at least, and whole in the usable part? No sum wraps.
 fn in_range(device: MemoryDevice, request: Request) -> bool
-    requires { ⌜ Valid device ⌝ }
+    requires { ⌜ Sized device ⌝ }
     requires { ⌜ request .blocks < 65536 ⌝ }
     ensures { λ r. ⌜ r ≡ inRange device request ⌝ }
 {
@@ -89,7 +89,7 @@ fn block_of_request(device: MemoryDevice, address: GuestAddress) -> BlockNumber
 
 // The first block of a request in range.
 fn run_start(device: MemoryDevice, request: Request) -> usize
-    requires { ⌜ Valid device ⌝ }
+    requires { ⌜ Sized device ⌝ }
     requires { ⌜ inRange device request ≡ true ⌝ }
     ensures { λ r. ⌜ (r ≡ blockOf device (request .addr .0)) × (r + request .blocks ≤ 1024) ⌝ }
 {
@@ -100,7 +100,7 @@ fn run_start(device: MemoryDevice, request: Request) -> usize
 
 // PLUG: a block already plugged is an error, and more than requested is not taken.
 fn plug_answer(device: MemoryDevice, request: Request, from: usize) -> Response
-    requires { ⌜ Valid device ⌝ }
+    requires { ⌜ Sized device ⌝ }
     requires { ⌜ (from ≡ blockOf device (request .addr .0)) × (from + request .blocks ≤ 1024) ⌝ }
     ensures { λ r. ⌜ r ≡ plugAnswer device request ⌝ }
 {
@@ -163,7 +163,7 @@ fn state_answer(device: MemoryDevice, request: Request, from: usize) -> Response
 
 // The answer to a request.
 fn answer_of(device: MemoryDevice, request: Request) -> Response
-    requires { ⌜ Valid device ⌝ }
+    requires { ⌜ Sized device ⌝ }
     requires { ⌜ request .blocks < 65536 ⌝ }
     ensures { λ r. ⌜ r ≡ answered device request ⌝ }
 {
@@ -203,7 +203,7 @@ fn is_ack(response: Response) -> bool
 
 // The plug table after an acknowledged request.
 fn acknowledged_table(device: MemoryDevice, request: Request) -> [u64; 16]
-    requires { ⌜ Valid device ⌝ }
+    requires { ⌜ Sized device ⌝ }
     requires { ⌜ isAck (answered device request) ≡ true ⌝ }
     ensures { λ r. ⌜ r ≡ acknowledged device request ⌝ }
 {
@@ -218,9 +218,9 @@ fn acknowledged_table(device: MemoryDevice, request: Request) -> [u64; 16]
     with_run(plugged, from, count, on)
 }
 
-// A request answered and carried out on a valid record.
+// A request answered and carried out.
 pub fn respond(device: MemoryDevice, request: Request) -> Answered
-    requires { ⌜ Valid device ⌝ }
+    requires { ⌜ Sized device ⌝ }
     requires { ⌜ request .blocks < 65536 ⌝ }
     ensures { λ r. ⌜ (r .response ≡ answered device request) × (r .device ≡ changedBy device request (answered device request)) ⌝ }
 {

@@ -1,6 +1,8 @@
 // The host's calls.
 ghost use mathlib.Core.Path.{_≡_};
-ghost use Rattle.memory_device.specs.Host.{outcomeOf, resized, pinned, unpinned, wasReset, configured, readOf, byteBlock, byteOf};
+ghost use Rattle.memory_device.specs.Table.{bitAt};
+ghost use Rattle.memory_device.specs.Device.{deviceOk};
+ghost use Rattle.memory_device.specs.Host.{outcomeOf, resized, pinned, unpinned, wasReset, configured, readOf, byteBlock, byteOf, pluggedAt};
 use crate::bytes::configuration_bytes;
 use crate::device::BlockNumber;
 use crate::device::Changed;
@@ -29,6 +31,34 @@ pub enum ByteBlock {
 }
 
 impl MemoryDevice {
+    // 27's test of a device record.
+    pub fn keeps_rules(self) -> bool
+        ensures { λ r. ⌜ r ≡ deviceOk self ⌝ }
+    {
+        device_ok(self)
+    }
+
+    // Is the block plugged? None is from 1,024 on.
+    pub fn is_plugged(self, block: BlockNumber) -> bool
+        ensures { λ r. ⌜ r ≡ bitAt (self .plugged) (block .0) ⌝ }
+    {
+        let plugged = self.plugged;
+        is_in(plugged, block.0 as usize)
+    }
+
+    // Is the byte at an offset of the managed region in a plugged block? Of a record without a block
+    // size every byte is in block 0.
+    pub fn holds(self, offset: RegionOffset) -> bool
+        ensures { λ r. ⌜ r ≡ pluggedAt self (offset .0) ⌝ }
+    {
+        let plugged = self.plugged;
+        if self.block_size == 0 {
+            return is_in(plugged, 0);
+        }
+        let block = offset.0 / self.block_size;
+        is_in(plugged, block as usize)
+    }
+
     // The requested size is set, and raises the usable size to it if that is lower.
     pub fn set_requested_size(self, size: u64) -> Changed
         ensures { λ r. ⌜ outcomeOf r ≡ resized self size ⌝ }

@@ -1,7 +1,8 @@
 // The guest's requests.
 ghost use mathlib.Core.Path.{_≡_};
 ghost use Prim.Native.Nat.{_<_};
-ghost use Rattle.memory_device.specs.Request.{requestOf, outcomeOf, carried};
+ghost use Rattle.memory_device.specs.Bytes.{responseBytes};
+ghost use Rattle.memory_device.specs.Request.{requestOf, typeOf, stateOf, responded, outcomeOf, carried};
 use crate::answer::respond;
 use crate::answer::state_of;
 use crate::answer::type_of;
@@ -10,6 +11,7 @@ use crate::bytes::response_bytes;
 use crate::device::HostAnswer;
 use crate::device::MemoryDevice;
 use crate::rules::device_ok;
+use crate::rules::sized;
 use region_map::map::GuestAddress;
 
 // A request of the guest, as its bytes have it.
@@ -38,6 +40,12 @@ pub struct Carried {
     pub device: MemoryDevice,
 }
 
+// The ten bytes of the response, and the next state.
+pub struct Responded {
+    pub response: [u8; 10],
+    pub device: MemoryDevice,
+}
+
 // The request in 24 bytes.
 pub fn request_of(bytes: [u8; 24]) -> Request
     ensures { λ r. ⌜ (r ≡ requestOf bytes) × (r .blocks < 65536) ⌝ }
@@ -52,22 +60,48 @@ pub fn request_of(bytes: [u8; 24]) -> Request
     }
 }
 
+// The ten bytes of an answer.
+fn answer_bytes(response: Response) -> [u8; 10]
+    ensures { λ r. ⌜ r ≡ responseBytes (typeOf response) (stateOf response) ⌝ }
+{
+    let kind = type_of(response);
+    let state = state_of(response);
+    response_bytes(kind, state)
+}
+
 impl MemoryDevice {
+    // A request carried out on a record that was judged before: 27 is not judged again. A record
+    // whose sizes are past SETUP's bounds gets ERROR.
+    pub fn respond_to(self, bytes: [u8; 24]) -> Responded
+        ensures { λ r. ⌜ r ≡ responded self bytes ⌝ }
+    {
+        if sized(self) {
+            let request = request_of(bytes);
+            let answered = respond(self, request);
+            let response = answered.response;
+            let device = answered.device;
+            return Responded {
+                response: answer_bytes(response),
+                device: device,
+            };
+        }
+        Responded {
+            response: answer_bytes(Response::Error),
+            device: self,
+        }
+    }
+
     // A request carried out.
     pub fn carry_out(self, bytes: [u8; 24]) -> Carried
         ensures { λ r. ⌜ outcomeOf r ≡ carried self bytes ⌝ }
     {
         if device_ok(self) {
-            let request = request_of(bytes);
-            let answered = respond(self, request);
-            let response = answered.response;
-            let device = answered.device;
-            let kind = type_of(response);
-            let state = state_of(response);
-            let out = response_bytes(kind, state);
+            let done = self.respond_to(bytes);
+            let response = done.response;
+            let device = done.device;
             return Carried {
                 answer: HostAnswer::Done,
-                response: out,
+                response: response,
                 device: device,
             };
         }

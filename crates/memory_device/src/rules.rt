@@ -2,10 +2,13 @@
 ghost use mathlib.Core.Path.{_≡_};
 ghost use Prim.Native.Nat.{_+_, _*_, _≤_, _<_};
 ghost use lib.Dec.{leb};
-ghost use Rattle.memory_device.specs.Device.{blockOk, regionOk, addrOk, sizesOk, setupOk, tablesOk, deviceOk};
+ghost use Rattle.memory_device.specs.Device.{blockOk, regionOk, addrOk, sizesOk, setupOk, tablesOk, deviceOk, sized};
 use crate::device::MemoryDevice;
 use crate::table::only_below;
 use crate::table::part_of;
+
+// The largest block size, 2^30.
+const LARGEST: u64 = 1073741824;
 
 // The largest end of a region, 2^48.
 const LIMIT: u64 = 281474976710656;
@@ -90,6 +93,17 @@ pub fn device_ok(device: MemoryDevice) -> bool
         device.requested_size,
     ) {
         return tables_ok(device);
+    }
+    false
+}
+
+// Has a record the sizes that carrying out a request needs?
+pub fn sized(device: MemoryDevice) -> bool
+    ensures { λ r. ⌜ r ≡ sized device ⌝ }
+{
+    let block = device.block_size;
+    if (1 <= block) & (block <= LARGEST) {
+        return device.usable_size <= 1024 * block;
     }
     false
 }
