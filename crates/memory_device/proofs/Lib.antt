@@ -7,4 +7,3 @@ pub mod Plugged
 pub mod RuleLaws
 mod SetUpLaws
 pub mod TableLaws
-pub mod Worked

@@ -1,0 +1,117 @@
+-- A view that is made of an accepted map keeps 27, with a device of the map's managed region and without a device. Assumes nothing.
+use mathlib.Core.Path.{_≡_, refl, sym, ap, _∙_, subst}
+use mathlib.Core.Bool.{Bool, true, false, _||_, not}
+use mathlib.Core.List.{List, [], _∷_}
+use mathlib.Core.Logic.{⊎-elim}
+use Prim.Native.Nat.{ℕ, zero, suc, _+_, _-_, _≤_, _<_}
+use native.Mathlib.Nat.{eq-or-lt-of-le}
+use native.Mathlib.Omega.{arith}
+use lib.Dec.{eqb, ltb}
+use lib.ListN.{length, getD, replicate, List·getD-append}
+use borrow.Author.Tests.{lt-ltb, eq-eqb, ne-eqb, eqb-true, eqb-false}
+use Rattle.region_map.specs.Map.{ram, mmio, managed, region}
+use Rattle.region_map.specs.Check.{Accepted}
+use Rattle.region_map.specs.FlatList.{answerOf, lookup, Entry, Chain, Longest}
+use Rattle.region_map.specs.Flatten.{backingOf, flatList, noRange, viewOf}
+use Rattle.region_map.specs.ViewRules.{rangeOf, lastOffset, LawfulRange, Lawful}
+use Rattle.region_map.specs.declared.map.RegionMap.{RegionMap}
+use Rattle.region_map.specs.declared.view.FlatRange.{FlatRange}
+use Rattle.region_map.specs.declared.view.FlatView.{FlatView}
+use Rattle.region_map.specs.declared.flat.Backing.{Backing}
+use Rattle.region_map.proofs.Accepted.{accepted-sound}
+use Rattle.region_map.proofs.LeafLaws.{root-leaf}
+use Rattle.region_map.proofs.UniqueLaws.{sound, here, later}
+use Rattle.region_map.proofs.Demand3.{list-gives, list-longest, made-lawful}
+use Rattle.memory_device.specs.SetUp.{managedIn, regionSize}
+use Rattle.memory_device.specs.declared.device.MemoryDevice.{MemoryDevice}
+use Rattle.memory_device.proofs.TableLaws.{all-of}
+use Rattle.virtqueue.specs.View.{kindOk, memoryOk, managedOk, pairOk, entryOk, viewOk, noRegionBound}
+use Rattle.virtqueue.proofs.RuleLaws.{range-of, agree-of, pair-of, entry-of, view-of}
+
+-- a range of a list of longest runs: it carries its region's values, and the list gives its last address its last offset
+module _ (backing : ℕ → Backing) where
+  run-at : (x : FlatRange) (xs : List FlatRange) (k : ℕ) → Chain backing x xs → k < length (x ∷ xs)
+      → Entry backing (getD (x ∷ xs) k noRange) × (x .first .0 ≤ getD (x ∷ xs) k noRange .last .0)
+      × (lookup (x ∷ xs) (getD (x ∷ xs) k noRange .last .0) ≡ answerOf (getD (x ∷ xs) k noRange) (getD (x ∷ xs) k noRange .last .0))
+  run-at x xs zero c h = let e = sound x xs c in (e, e .order, here backing x xs (x .last .0) (e .order) (omega arith))
+  run-at x [] (suc k) c h = absurd (omega arith)
+  run-at x (y ∷ ys) (suc k) c h =
+      let q = run-at y ys k (c .2) (omega arith) in
+      let e = c .0 .order in
+      let p = c .1 .above in
+      let low = q .1 in
+      (q .0, omega arith, later backing x (y ∷ ys) (getD (y ∷ ys) k noRange .last .0) (omega arith) ∙ q .2)
+
+  run-of : (l : List FlatRange) (k : ℕ) → Longest backing l → k < length l
+      → Entry backing (getD l k noRange) × (lookup l (getD l k noRange .last .0) ≡ answerOf (getD l k noRange) (getD l k noRange .last .0))
+  run-of [] k c h = absurd (omega arith)
+  run-of (x ∷ xs) k c h = let q = run-at x xs k c h in (q .0, q .2)
+
+-- the managed region's size, of a map with one
+managed-size : (m : RegionMap) (c n : ℕ) → n < c → region m n .kind ≡ managed → ((i j : ℕ) → i < j → j < c → region m i .kind ≡ managed → region m j .kind ≡ managed → ⊥)
+    → managedIn m c ≡ region m n .size
+unfolding managedIn
+managed-size m zero n h e single = absurd (omega arith)
+managed-size m (suc c) n h e single =
+    ⊎-elim (λ (q : n ≡ c). rw (eq-eqb (region m c .kind) managed (ap (λ (x : ℕ). region m x .kind) (sym q) ∙ e)) (ap (λ (x : ℕ). region m x .size) (sym q)))
+    (λ lt. rw (ne-eqb (region m c .kind) managed (single n c lt (omega arith) e)) (managed-size m c n lt e (λ i j p r. single i j p (omega arith))))
+    (eq-or-lt-of-le {n = n} {m = c} (omega arith))
+
+module _ (m : RegionMap) (memory : ℕ) (ok : Accepted m memory) (few : length (flatList m) ≤ 256) where
+  -- a managed range lies in the managed region
+  managed-inside : (k : ℕ) → k < viewOf (flatList m) .count → rangeOf (viewOf (flatList m)) k .kind ≡ managed → lastOffset (rangeOf (viewOf (flatList m)) k) < regionSize m
+  unfolding viewOf
+  managed-inside k h e = go (getD (flatList m) k noRange) (List·getD-append (flatList m) (replicate (256 - length (flatList m)) noRange) noRange k h) (run-of (backingOf m) (flatList m) k (list-longest m) h) e
+    where
+      go : (r : FlatRange) → rangeOf (viewOf (flatList m)) k ≡ r → Entry (backingOf m) r × (lookup (flatList m) (r .last .0) ≡ answerOf r (r .last .0))
+          → rangeOf (viewOf (flatList m)) k .kind ≡ managed → lastOffset (rangeOf (viewOf (flatList m)) k) < regionSize m
+      go r is q e =
+          let leaf = root-leaf m memory ok (r .last .0) (r .region) (record { 0 = lastOffset r }) (sym (list-gives m (r .last .0)) ∙ q .1) in
+          let kind : region m (r .region) .kind ≡ managed = sym (q .0 .kind) ∙ ap (λ (x : FlatRange). x .kind) (sym is) ∙ e in
+          let size = managed-size m (m .count) (r .region) (leaf .below) kind (accepted-sound m memory ok .single) in
+          let within = leaf .inside in
+          subst (λ (x : FlatRange). lastOffset x < regionSize m) (sym is) (omega (arith, size))
+
+  -- with any bound that the managed ranges keep
+  made-ok : (bound : ℕ) → ((k : ℕ) → k < viewOf (flatList m) .count → rangeOf (viewOf (flatList m)) k .kind ≡ managed → lastOffset (rangeOf (viewOf (flatList m)) k) < bound)
+      → viewOk (viewOf (flatList m)) memory bound ≡ true
+  made-ok bound managed-in = go (viewOf (flatList m)) (made-lawful m memory ok few) managed-in
+    where
+      kind-ok : (r : FlatRange) → LawfulRange m memory r → kindOk r ≡ true
+      kind-ok r f = pick (eqb (r .kind) ram) refl (eqb (r .kind) mmio) refl
+        where
+          pick : (x : Bool) → eqb (r .kind) ram ≡ x → (y : Bool) → eqb (r .kind) mmio ≡ y → (x || y || eqb (r .kind) managed) ≡ true
+          pick true p y q = refl
+          pick false p true q = refl
+          pick false p false q = eq-eqb (r .kind) managed (f .kind (eqb-false (r .kind) ram p) (eqb-false (r .kind) mmio q))
+
+      memory-ok : (r : FlatRange) → LawfulRange m memory r → memoryOk memory r ≡ true
+      memory-ok r f = pick (eqb (r .kind) mmio) refl
+        where
+          pick : (x : Bool) → eqb (r .kind) mmio ≡ x → (x || ltb (r .base + lastOffset r) memory) ≡ true
+          pick true p = refl
+          pick false p = lt-ltb (r .base + lastOffset r) memory (f .memory (eqb-false (r .kind) mmio p))
+
+      managed-ok : (r : FlatRange) → (r .kind ≡ managed → lastOffset r < bound) → managedOk bound r ≡ true
+      managed-ok r f = pick (eqb (r .kind) managed) refl
+        where
+          pick : (x : Bool) → eqb (r .kind) managed ≡ x → (not x || ltb (lastOffset r) bound) ≡ true
+          pick true p = lt-ltb (lastOffset r) bound (f (eqb-true (r .kind) managed p))
+          pick false p = refl
+
+      go : (v : FlatView) → Lawful m memory v → ((k : ℕ) → k < v .count → rangeOf v k .kind ≡ managed → lastOffset (rangeOf v k) < bound) → viewOk v memory bound ≡ true
+      go v l inside = view-of v memory bound (l .few) (all-of (entryOk v memory bound) (v .count) (λ k h.
+          let f = l .each k h in
+          entry-of v memory bound k
+          (range-of memory bound (rangeOf v k) (record { order = f .order; last = f .last; offset = f .offset; number = f .number; kind = kind-ok (rangeOf v k) f; room = memory-ok (rangeOf v k) f; inside = managed-ok (rangeOf v k) (inside k h) }))
+          (all-of (λ j. pairOk (rangeOf v j) (rangeOf v k)) k (λ j p.
+          let q : j < v .count = omega arith in
+          pair-of (rangeOf v j) (rangeOf v k) (l .ascending j k p h) (agree-of (rangeOf v j) (rangeOf v k) (l .kinds j k q h) (l .bases j k q h))))))
+
+  -- 27 over the same memory, with a device of the map's managed region
+  pub made-view-kept : (d : MemoryDevice) → d .«region_size» ≡ regionSize m → viewOk (viewOf (flatList m)) memory (d .«region_size») ≡ true
+  made-view-kept d e = rw e (made-ok (regionSize m) managed-inside)
+
+  -- and without a device
+  pub made-view-kept-alone : viewOk (viewOf (flatList m)) memory noRegionBound ≡ true
+  made-view-kept-alone = made-ok noRegionBound (λ k h e. made-lawful m memory ok few .each k h .offset)

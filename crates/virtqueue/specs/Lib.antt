@@ -1,0 +1,11 @@
+pub mod Guest
+pub mod View
+pub mod Route
+pub mod Queue
+pub mod Chain
+pub mod Step
+pub mod Run
+pub mod Contracts
+pub mod SecondHalf
+pub mod Causes
+pub mod Thin

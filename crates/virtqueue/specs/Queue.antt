@@ -1,0 +1,97 @@
+-- The split queue's record: 16, 27, making and reset, and where its areas lie. Assumes nothing: these are definitions.
+use mathlib.Core.Bool.{Bool, true, false, cond, _&&_, _||_}
+use Prim.Native.Nat.{ℕ, _+_, _-_, _*_, _%_}
+use lib.Dec.{eqb, leb}
+use Rattle.region_map.specs.Fault.{limit}
+use Rattle.region_map.specs.Reply.{Reply, accepted, plain}
+use Rattle.virtqueue.specs.declared.queue.SplitQueue.{SplitQueue}
+use Rattle.virtqueue.specs.declared.queue.QueueAnswer.{QueueAnswer}
+use Rattle.virtqueue.specs.declared.queue.QueueAnswer.the-variants as answer
+use Rattle.virtqueue.specs.declared.queue.QueueGiven.{QueueGiven}
+
+-- 16: 'queue size not a power of two from 1 to 256'
+abbrev pub sizeOk : ℕ → Bool
+sizeOk n = eqb n 1 || eqb n 2 || eqb n 4 || eqb n 8 || eqb n 16 || eqb n 32 || eqb n 64 || eqb n 128 || eqb n 256
+
+-- 16: an address 'not a multiple of' its alignment; 'an area ending over 2^48'
+abbrev pub areaOk : ℕ → ℕ → ℕ → Bool
+areaOk start align bytes = eqb (start % align) 0 && leb (start + bytes) limit
+
+-- 16: 'descriptor, available, used address not a multiple of 16, 2, 4'; 'Areas: 16n, 6 + 2n, 6 + 8n bytes'
+unfoldable pub areasOk : ℕ → ℕ → ℕ → ℕ → Bool
+areasOk size descriptors available used =
+    sizeOk size && (areaOk descriptors 16 (16 * size) && (areaOk available 2 (6 + 2 * size) && areaOk used 4 (6 + 8 * size)))
+
+-- 27: 'a stop that is neither none nor 17 to 22'; none is 0
+abbrev pub stopOk : ℕ → Bool
+stopOk s = eqb s 0 || (leb 17 s && leb s 22)
+
+-- 27 for the queue: 'rules of 16, or a stop ..'
+unfoldable pub queueOk : SplitQueue → Bool
+queueOk q = areasOk (q .size) (q .descriptors .0) (q .available .0) (q .used .0) && stopOk (q .stop)
+
+-- the record of a refusal: all zero
+abbrev pub noQueue : SplitQueue
+noQueue =
+    record { size = 0; descriptors = record { 0 = 0 }; available = record { 0 = 0 }; used = record { 0 = 0 }; «next_available» = 0; «next_used» = 0; stop = 0 }
+
+-- 'A queue reset sets its indices to 0 and clears the stop'
+abbrev pub cleared : SplitQueue → SplitQueue
+cleared q =
+    record { size = q .size; descriptors = q .descriptors; available = q .available; used = q .used; «next_available» = 0; «next_used» = 0; stop = 0 }
+
+-- a queue made of a size and three areas, or 16
+unfoldable pub made : ℕ → ℕ → ℕ → ℕ → QueueGiven
+made size descriptors available used =
+    cond (areasOk size descriptors available used)
+    (record {
+      answer = answer.Done;
+      queue =
+          record {
+            size = size;
+            descriptors = record { 0 = descriptors };
+            available = record { 0 = available };
+            used = record { 0 = used };
+            «next_available» = 0;
+            «next_used» = 0;
+            stop = 0;
+          };
+    })
+    (record { answer = answer.Queue; queue = noQueue })
+
+-- a reset, or 27 with the record as it was
+unfoldable pub wasReset : SplitQueue → QueueGiven
+wasReset q = cond (queueOk q) (record { answer = answer.Done; queue = cleared q }) (record { answer = answer.Record; queue = q })
+
+-- document 01's number for each answer
+abbrev pub queueReply : QueueAnswer → Reply
+queueReply answer.Done = accepted
+queueReply answer.Queue = plain 16
+queueReply answer.Record = plain 27
+
+-- VIRTIO 2.6.6 and 2.6.8: a ring has flags and idx of two bytes each, then its entries
+abbrev pub ringEntry : SplitQueue → ℕ
+ringEntry q = q .available .0 + 4 + 2 * (q .«next_available» % q .size)
+
+abbrev pub usedEntry : SplitQueue → ℕ
+usedEntry q = q .used .0 + 4 + 8 * (q .«next_used» % q .size)
+
+abbrev pub usedIdx : SplitQueue → ℕ
+usedIdx q = q .used .0 + 2
+
+-- 'the distance taken modulo 65,536', and the next index
+abbrev pub distance : ℕ → ℕ → ℕ
+distance idx seen = (idx + 65536 - seen) % 65536
+
+abbrev pub nextIndex : ℕ → ℕ
+nextIndex i = (i + 1) % 65536
+
+-- '17 to 22 only stop the queue with that number'
+abbrev pub stoppedBy : SplitQueue → ℕ → SplitQueue
+stoppedBy q k =
+    record { size = q .size; descriptors = q .descriptors; available = q .available; used = q .used; «next_available» = q .«next_available»; «next_used» = q .«next_used»; stop = k }
+
+-- one chain taken and returned
+abbrev pub advanced : SplitQueue → SplitQueue
+advanced q =
+    record { size = q .size; descriptors = q .descriptors; available = q .available; used = q .used; «next_available» = nextIndex (q .«next_available»); «next_used» = nextIndex (q .«next_used»); stop = q .stop }

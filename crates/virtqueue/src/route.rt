@@ -1,0 +1,159 @@
+// Routing of one guest access.
+ghost use mathlib.Core.Path.{_≡_};
+ghost use mathlib.Core.Bool.{true};
+ghost use Prim.Native.Nat.{_+_, _≤_, _<_};
+ghost use Rattle.region_map.specs.Flatten.{entries};
+ghost use Rattle.region_map.specs.Reply.{numberOf};
+ghost use Rattle.memory_device.specs.Table.{allBelow};
+ghost use Rattle.memory_device.specs.Host.{pluggedAt};
+ghost use Rattle.virtqueue.specs.Guest.{leafAt};
+ghost use Rattle.virtqueue.specs.Route.{widthOk, follows, routed, routedWith, routedWithout, routeReply};
+ghost use Rattle.virtqueue.specs.Contracts.{Ordered, Spot, noDevice};
+use crate::find::near;
+use crate::rules::view_ok;
+use crate::view::NO_REGION;
+use memory_device::device::MemoryDevice;
+use region_map::map::GuestAddress;
+use region_map::map::MANAGED;
+use region_map::map::MMIO;
+use region_map::map::RegionOffset;
+use region_map::view::FlatView;
+
+// A refusal's number, a memory place, or a port and the offset in its region.
+pub enum RouteAnswer {
+    Refused(u8),
+    Memory(u64),
+    Port(u64, RegionOffset),
+}
+
+fn width_ok(w: u64) -> bool
+    ensures { λ r. ⌜ r ≡ widthOk w ⌝ }
+{
+    (w == 1) | (w == 2) | (w == 4) | (w == 8)
+}
+
+// Is each later byte the same region at the next offset? In one range it is; else byte by byte.
+fn is_whole(view: FlatView, at: usize, a: GuestAddress, w: u64) -> bool
+    requires { ⌜ Ordered view ⌝ }
+    requires { ⌜ Spot view (a .0) at ⌝ }
+    requires { ⌜ (at < view .count) × (0 < w) × (w ≤ 8) ⌝ }
+    ensures { λ r. ⌜ r ≡ allBelow (λ i. follows (leafAt (entries view) (a .0)) i (leafAt (entries view) (a .0 + i))) w ⌝ }
+{
+    let range = view.ranges[at];
+    if w - 1 <= range.last.0 - a.0 {
+        return true;
+    }
+    let offset = range.offset.0 + (a.0 - range.first.0);
+    let mut here = at;
+    let mut i: u64 = 1;
+    while i < w {
+        let b = a.0 + i;
+        here = near(view, here, GuestAddress(b));
+        if view.count <= here {
+            return false;
+        }
+        let other = view.ranges[here];
+        let there = other.offset.0 + (b - other.first.0);
+        if !((other.region == range.region) & (there == offset + i)) {
+            return false;
+        }
+        i += 1;
+    }
+    true
+}
+
+// Are the blocks of an access plugged? Its first and last byte tell, since no block is shorter than it.
+fn is_plugged(device: MemoryDevice, offset: u64, w: u64) -> bool
+    requires { ⌜ (8 ≤ device .«block_size») × (0 < w) × (w ≤ 8) × (offset < 281474976710656) ⌝ }
+    ensures { λ r. ⌜ r ≡ allBelow (λ i. pluggedAt device (offset + i)) w ⌝ }
+{
+    let first = device.holds(RegionOffset(offset));
+    let last = device.holds(RegionOffset(offset + (w - 1)));
+    first & last
+}
+
+// An access over a view that was judged.
+fn route_judged(view: FlatView, device: MemoryDevice, a: GuestAddress, w: u64) -> RouteAnswer
+    requires { ⌜ Ordered view ⌝ }
+    requires { ⌜ 8 ≤ device .«block_size» ⌝ }
+    ensures { λ r. ⌜ r ≡ routed (leafAt (entries view)) (pluggedAt device) (a .0) w ⌝ }
+{
+    if !width_ok(w) {
+        return RouteAnswer::Refused(23);
+    }
+    let at = near(view, 0, a);
+    if view.count <= at {
+        return RouteAnswer::Refused(24);
+    }
+    if !is_whole(view, at, a, w) {
+        return RouteAnswer::Refused(25);
+    }
+    let range = view.ranges[at];
+    let offset = range.offset.0 + (a.0 - range.first.0);
+    if range.kind == MMIO {
+        return RouteAnswer::Port(range.base, RegionOffset(offset));
+    }
+    if range.kind == MANAGED {
+        if !is_plugged(device, offset, w) {
+            return RouteAnswer::Refused(26);
+        }
+    }
+    RouteAnswer::Memory(range.base + offset)
+}
+
+// A record in whose region nothing is plugged.
+fn no_device() -> MemoryDevice
+    ensures { λ r. ⌜ r ≡ noDevice ⌝ }
+{
+    MemoryDevice {
+        block_size: 4096,
+        addr: 0,
+        region_size: 0,
+        usable_size: 0,
+        requested_size: 0,
+        plugged: [0u64; 16],
+        pinned: [0u64; 16],
+    }
+}
+
+// An access with a device.
+pub fn route(
+    view: FlatView,
+    memory_length: u64,
+    device: MemoryDevice,
+    address: GuestAddress,
+    width: u64,
+) -> RouteAnswer
+    ensures { λ r. ⌜ r ≡ routedWith view «memory_length» device (address .0) width ⌝ }
+{
+    if view_ok(view, memory_length, device.region_size) & device.keeps_rules() {
+        return route_judged(view, device, address, width);
+    }
+    RouteAnswer::Refused(27)
+}
+
+// An access without one: every block counts as unplugged, and 27 judges no region.
+pub fn route_without_device(
+    view: FlatView,
+    memory_length: u64,
+    address: GuestAddress,
+    width: u64,
+) -> RouteAnswer
+    ensures { λ r. ⌜ r ≡ routedWithout view «memory_length» (address .0) width ⌝ }
+{
+    if view_ok(view, memory_length, NO_REGION) {
+        return route_judged(view, no_device(), address, width);
+    }
+    RouteAnswer::Refused(27)
+}
+
+// Document 01's number of the refusal, and 0 where the access is routed.
+pub fn number_of(answer: RouteAnswer) -> u64
+    ensures { λ r. ⌜ r ≡ numberOf (routeReply answer) ⌝ }
+{
+    match answer {
+        RouteAnswer::Refused(n) => n as u64,
+        RouteAnswer::Memory(_) => 0,
+        RouteAnswer::Port(_, _) => 0,
+    }
+}

@@ -1,0 +1,89 @@
+// A run of steps.
+ghost use mathlib.Core.Path.{_≡_};
+ghost use Prim.Native.Nat.{_≤_, min};
+ghost use Rattle.virtqueue.specs.Run.{ran};
+use crate::queue::SplitQueue;
+use crate::serve::step_judged;
+use crate::step::StepOutcome;
+use crate::step::records_ok;
+use memory_device::device::MemoryDevice;
+use region_map::view::FlatView;
+
+// The most steps of a run.
+const STEPS: u64 = 256;
+
+// All steps were served, or the first that was not was idle or refused.
+pub enum RunEnd {
+    AllDone,
+    Idle,
+    Refused(u8),
+}
+
+// How many steps were served, whether one of them notified, the end, and the next state.
+pub struct Ran {
+    pub served: u64,
+    pub notified: bool,
+    pub end: RunEnd,
+    pub device: MemoryDevice,
+    pub queue: SplitQueue,
+}
+
+fn at_most(k: u64, most: u64) -> u64
+    ensures { λ r. ⌜ r ≡ min k most ⌝ }
+{
+    if most < k { most } else { k }
+}
+
+// Up to k steps, at most 256. The records are judged once.
+pub fn run_steps(
+    view: FlatView,
+    device: MemoryDevice,
+    queue: SplitQueue,
+    mem: &mut [u8],
+    k: u64,
+) -> Ran
+    ensures { λ r. ⌜ (r ≡ ran view device queue (now (mem .entry)) k .result) × (now (mem .exit) ≡ ran view device queue (now (mem .entry)) k .memory) ⌝ }
+{
+    if !records_ok(view, device, queue, mem.len() as u64) {
+        return Ran {
+            served: 0,
+            notified: false,
+            end: RunEnd::Refused(27),
+            device: device,
+            queue: queue,
+        };
+    }
+    let mut device_now = device;
+    let mut queue_now = queue;
+    let mut served: u64 = 0;
+    let mut notified = false;
+    let mut end = RunEnd::AllDone;
+    let most = at_most(k, STEPS);
+    while served < most {
+        let s = step_judged(view, device_now, queue_now, mem);
+        device_now = s.device;
+        queue_now = s.queue;
+        let outcome = s.outcome;
+        match outcome {
+            StepOutcome::Refused(n) => {
+                end = RunEnd::Refused(n);
+                break;
+            }
+            StepOutcome::Idle => {
+                end = RunEnd::Idle;
+                break;
+            }
+            StepOutcome::Served(notify) => {
+                served += 1;
+                notified = notified | notify;
+            }
+        }
+    }
+    Ran {
+        served: served,
+        notified: notified,
+        end: end,
+        device: device_now,
+        queue: queue_now,
+    }
+}

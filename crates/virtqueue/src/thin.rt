@@ -1,0 +1,32 @@
+// The step over a queue record that lies in the caller's storage.
+ghost use mathlib.Core.Path.{_≡_};
+ghost use Rattle.virtqueue.specs.Step.{stepped};
+ghost use Rattle.virtqueue.specs.Thin.{told};
+use crate::queue::SplitQueue;
+use crate::step::StepOutcome;
+use crate::step::step;
+use memory_device::device::MemoryDevice;
+use region_map::view::FlatView;
+
+// The outcome, and the device's next state.
+pub struct Advanced {
+    pub outcome: StepOutcome,
+    pub device: MemoryDevice,
+}
+
+// One step; the queue record is advanced where it lies.
+pub fn advance(
+    queue: &mut SplitQueue,
+    mem: &mut [u8],
+    view: FlatView,
+    device: MemoryDevice,
+) -> Advanced
+    ensures { λ r. ⌜ (r ≡ told (stepped view device (now (queue .entry)) (now (mem .entry)) .result)) × (now (mem .exit) ≡ stepped view device (now (queue .entry)) (now (mem .entry)) .memory) × (now (queue .exit) ≡ stepped view device (now (queue .entry)) (now (mem .entry)) .result .queue) ⌝ }
+{
+    let s = step(view, device, *queue, mem);
+    *queue = s.queue;
+    Advanced {
+        outcome: s.outcome,
+        device: s.device,
+    }
+}
