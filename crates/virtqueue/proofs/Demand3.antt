@@ -1,8 +1,9 @@
 -- Demand 3, second half: over an accepted map whose flat view was made, for every memory, device record and queue record. Assumes nothing.
-use mathlib.Core.Path.{_≡_, refl, sym, ap, ap₂, _∙_}
+use mathlib.Core.Path.{_≡_, refl, sym, ap, subst, _∙_}
 use mathlib.Core.Bool.{Bool, true, false, cond, _&&_, _||_}
 use mathlib.Core.List.{List, [], _∷_, _++_, map}
 use Prim.Native.Nat.{ℕ, zero, suc, _+_, _*_, _≤_, _<_}
+use native.Mathlib.Decide.{decLt}
 use native.Mathlib.Omega.{arith}
 use lib.Dec.{eqb, ltb}
 use lib.ListN.{length, getD}
@@ -10,13 +11,15 @@ use borrow.Author.Tests.{eqb-true, ne-eqb}
 use Rattle.region_map.specs.Map.{ram, mmio, managed, region}
 use Rattle.region_map.specs.Check.{Accepted}
 use Rattle.region_map.specs.Walk.{walkRoot}
-use Rattle.region_map.specs.Flatten.{flatList, viewOf, entries}
+use Rattle.region_map.specs.Reply.{accepted, plain}
+use Rattle.region_map.specs.Flatten.{Outcome, flatList, viewOf, entries, flattened}
 use Rattle.region_map.specs.declared.map.RegionMap.{RegionMap}
 use Rattle.region_map.specs.declared.map.RegionOffset.{RegionOffset}
 use Rattle.region_map.specs.declared.resolve.Resolved.{Resolved}
 use Rattle.region_map.specs.declared.resolve.Resolved.the-variants.{Nothing, At}
 use Rattle.region_map.specs.declared.view.FlatView.{FlatView}
 use Rattle.region_map.proofs.Bools.{never, and-fst, and-snd}
+use Rattle.region_map.proofs.Demand3.{demand3-first-half, refused-12}
 use Rattle.memory_device.specs.Host.{pluggedAt}
 use Rattle.memory_device.specs.Request.{requestOf, carriedOut}
 use Rattle.memory_device.specs.declared.device.MemoryDevice.{MemoryDevice}
@@ -171,7 +174,7 @@ module _ (m : RegionMap) (size : ℕ) (ok : Accepted m size) (few : length (flat
       s .left
       ∙ (λ i. written (written memory (two i) (carriedOut d (requestOf (one i)) .response)) (three i) (usedBytes (q .«next_used») (four i)))
 
-  -- Demand 3, second half
+  -- the same for the view of the map's own list
   pub demand3-second-half : (q : SplitQueue) (memory : List ℕ) → SecondHalf m view d q memory
   unfolding elementsOf stepped steppedBy
   demand3-second-half q memory = go (recordsOk view d q (length memory)) refl
@@ -202,3 +205,15 @@ module _ (m : RegionMap) (size : ℕ) (ok : Accepted m size) (few : length (flat
             idle = λ e. ap (λ (f : Effect). f .memory) step;
             refused = λ k e. ap (λ (f : Effect). f .memory) step;
           }
+
+-- Demand 3, second half: 'an accepted map whose flat view was made'
+pub demand3 : (m : RegionMap) (size : ℕ) → Accepted m size → flattened m size .reply ≡ accepted
+    → (d : MemoryDevice) (q : SplitQueue) (memory : List ℕ) → SecondHalf m (flattened m size .view) d q memory
+demand3 m size ok made d q memory = go (decLt 256 (length (flatList m)))
+  where
+    go : Dec (256 < length (flatList m)) → SecondHalf m (flattened m size .view) d q memory
+    go (yes h) = absurd (let e : plain 12 ≡ accepted = sym (ap (λ (o : Outcome). o .reply) (refused-12 m size ok h)) ∙ made in let z : _≡_ {A = ℕ} 0 1 = cc in omega arith)
+    go (no h) =
+        let few : length (flatList m) ≤ 256 = omega arith in
+        let e : flattened m size .view ≡ viewOf (flatList m) = ap (λ (o : Outcome). o .view) (demand3-first-half m size ok few .0) in
+        subst (λ (v : FlatView). SecondHalf m v d q memory) (sym e) (demand3-second-half m size ok few d q memory)
