@@ -1,0 +1,2 @@
+mod DrawLaws
+pub mod PointLaws

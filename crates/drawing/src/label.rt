@@ -1,0 +1,80 @@
+// The labels of the rows.
+ghost use mathlib.Core.Path.{_≡_};
+ghost use Prim.Native.Nat.{_≤_, _<_};
+ghost use Rattle.drawing.specs.Drawing.{digitOf, letterOf, kindText, regionLabel, label as labelOf, RowIn};
+use crate::row::Row;
+use region_map::map::ALIAS;
+use region_map::map::CONTAINER;
+use region_map::map::MMIO;
+use region_map::map::RAM;
+use region_map::map::RegionMap;
+
+// A region's number as one character.
+pub fn digit(n: usize) -> u8
+    ensures { λ r. ⌜ r ≡ digitOf n ⌝ }
+{
+    if n < 10 {
+        return b'0' + n as u8;
+    }
+    if n < 36 {
+        return b'a' + (n - 10) as u8;
+    }
+    b'?'
+}
+
+// Letter i of a word, and a space past its end.
+pub fn letter(word: &[u8], i: usize) -> u8
+    ensures { λ r. ⌜ r ≡ letterOf (now (word .entry)) i ⌝ }
+{
+    if i < word.len() {
+        return word[i];
+    }
+    b' '
+}
+
+// Letter i of the name of a kind.
+fn kind_letter(kind: u64, i: usize) -> u8
+    ensures { λ r. ⌜ r ≡ letterOf (kindText kind) i ⌝ }
+{
+    if kind == CONTAINER {
+        return letter(b"container", i);
+    }
+    if kind == RAM {
+        return letter(b"ram", i);
+    }
+    if kind == MMIO {
+        return letter(b"mmio", i);
+    }
+    if kind == ALIAS {
+        return letter(b"alias", i);
+    }
+    letter(b"managed", i)
+}
+
+// Character k of the label of region n: its number, then its kind.
+fn region_label(map: RegionMap, n: usize, k: usize) -> u8
+    requires { ⌜ n < 32 ⌝ }
+    ensures { λ r. ⌜ r ≡ regionLabel map n k ⌝ }
+{
+    if k == 1 {
+        return digit(n);
+    }
+    if k < 3 {
+        return b' ';
+    }
+    let kind = map.regions[n].kind;
+    kind_letter(kind, k - 3)
+}
+
+// Character k of a row's label.
+pub fn label(map: RegionMap, row: Row, k: usize) -> u8
+    requires { ⌜ (map .count ≤ 32) × RowIn map row ⌝ }
+    ensures { λ r. ⌜ r ≡ labelOf map row k ⌝ }
+{
+    match row {
+        Row::Addresses => letter(b" address", k),
+        Row::Ruler => b' ',
+        Row::Region(n) => region_label(map, n, k),
+        Row::FlatView => letter(b" flat view", k),
+    }
+}

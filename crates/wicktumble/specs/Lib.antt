@@ -1,0 +1,5 @@
+pub mod Words
+pub mod Maps
+pub mod Devices
+pub mod Queues
+pub mod Routes

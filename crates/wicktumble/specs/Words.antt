@@ -1,0 +1,140 @@
+-- Records as 64-bit words in a host's storage (include/wicktumble.h), and what calls say beside their number. Assumes nothing: these are definitions.
+use mathlib.Core.Bool.{Bool, true, false, cond, _&&_}
+use mathlib.Core.List.{List, [], _∷_, _++_}
+use Prim.Native.Nat.{ℕ, zero, suc, _+_, _-_, _*_, min}
+use lib.Dec.{eqb, leb}
+use lib.ListN.{length, getD, take, drop, replicate}
+use Rattle.region_map.specs.Map.{noRegion}
+use Rattle.region_map.specs.Flatten.{noRange}
+use Rattle.region_map.specs.Reply.{Reply, accepted, nodes, place, plain}
+use Rattle.region_map.specs.declared.map.Region.{Region}
+use Rattle.region_map.specs.declared.map.RegionMap.{RegionMap}
+use Rattle.region_map.specs.declared.view.FlatRange.{FlatRange}
+use Rattle.region_map.specs.declared.view.FlatView.{FlatView}
+use Rattle.memory_device.specs.declared.device.MemoryDevice.{MemoryDevice}
+use Rattle.virtqueue.specs.declared.queue.SplitQueue.{SplitQueue}
+
+-- a map of 289 words: the count, and 32 regions of 9; regions past the count are taken as zero
+abbrev pub regionAt : List ℕ → ℕ → Region
+regionAt w at =
+    record {
+      kind = getD w at 0;
+      parent = getD w (at + 1) 0;
+      offset = getD w (at + 2) 0;
+      size = getD w (at + 3) 0;
+      priority = getD w (at + 4) 0;
+      «memory_start» = getD w (at + 5) 0;
+      port = getD w (at + 6) 0;
+      target = getD w (at + 7) 0;
+      «alias_offset» = getD w (at + 8) 0;
+    }
+
+unfoldable pub regionsAt : List ℕ → ℕ → ℕ → List Region
+regionsAt w at zero = []
+regionsAt w at (suc n) = regionAt w at ∷ regionsAt w (at + 9) n
+
+unfoldable pub mapOf : List ℕ → RegionMap
+mapOf w = record { count = getD w 0 0; regions = regionsAt w 1 (min (getD w 0 0) 32) ++ replicate (32 - min (getD w 0 0) 32) noRegion }
+
+abbrev pub regionWords : Region → List ℕ
+regionWords r =
+    r .kind ∷ r .parent ∷ r .offset ∷ r .size ∷ r .priority ∷ r .«memory_start» ∷ r .port ∷ r .target ∷ r .«alias_offset» ∷ []
+
+unfoldable pub regionsWords : List Region → List ℕ
+regionsWords [] = []
+regionsWords (r ∷ rs) = regionWords r ++ regionsWords rs
+
+unfoldable pub mapWords : RegionMap → List ℕ
+mapWords m = m .count ∷ regionsWords (m .regions)
+
+-- a view of 1,537 words: the count, and 256 ranges of 6; ranges past the count are taken as zero
+abbrev pub rangeAt : List ℕ → ℕ → FlatRange
+rangeAt w at =
+    record {
+      first = record { 0 = getD w at 0 };
+      last = record { 0 = getD w (at + 1) 0 };
+      region = getD w (at + 2) 0;
+      offset = record { 0 = getD w (at + 3) 0 };
+      kind = getD w (at + 4) 0;
+      base = getD w (at + 5) 0;
+    }
+
+unfoldable pub rangesAt : List ℕ → ℕ → ℕ → List FlatRange
+rangesAt w at zero = []
+rangesAt w at (suc n) = rangeAt w at ∷ rangesAt w (at + 6) n
+
+unfoldable pub viewOf : List ℕ → FlatView
+viewOf w = record { count = getD w 0 0; ranges = rangesAt w 1 (min (getD w 0 0) 256) ++ replicate (256 - min (getD w 0 0) 256) noRange }
+
+abbrev pub rangeWords : FlatRange → List ℕ
+rangeWords r = r .first .0 ∷ r .last .0 ∷ r .region ∷ r .offset .0 ∷ r .kind ∷ r .base ∷ []
+
+unfoldable pub rangesWords : List FlatRange → List ℕ
+rangesWords [] = []
+rangesWords (r ∷ rs) = rangeWords r ++ rangesWords rs
+
+unfoldable pub viewWords : FlatView → List ℕ
+viewWords v = v .count ∷ rangesWords (v .ranges)
+
+-- a device of 37 words
+unfoldable pub deviceOf : List ℕ → MemoryDevice
+deviceOf w =
+    record {
+      «block_size» = getD w 0 0;
+      addr = getD w 1 0;
+      «region_size» = getD w 2 0;
+      «usable_size» = getD w 3 0;
+      «requested_size» = getD w 4 0;
+      plugged = take 16 (drop 5 w);
+      pinned = take 16 (drop 21 w);
+    }
+
+unfoldable pub deviceWords : MemoryDevice → List ℕ
+deviceWords d =
+    d .«block_size» ∷ d .addr ∷ d .«region_size» ∷ d .«usable_size» ∷ d .«requested_size» ∷ (d .plugged ++ d .pinned)
+
+-- a queue of 7 words, of which four have fewer than 64 bits
+unfoldable pub queueFits : List ℕ → Bool
+queueFits w = leb (getD w 0 0) 65535 && (leb (getD w 4 0) 65535 && (leb (getD w 5 0) 65535 && leb (getD w 6 0) 255))
+
+unfoldable pub queueOf : List ℕ → SplitQueue
+queueOf w =
+    record {
+      size = getD w 0 0;
+      descriptors = record { 0 = getD w 1 0 };
+      available = record { 0 = getD w 2 0 };
+      used = record { 0 = getD w 3 0 };
+      «next_available» = getD w 4 0;
+      «next_used» = getD w 5 0;
+      stop = getD w 6 0;
+    }
+
+unfoldable pub queueWords : SplitQueue → List ℕ
+queueWords q =
+    q .size ∷ q .descriptors .0 ∷ q .available .0 ∷ q .used .0 ∷ q .«next_available» ∷ q .«next_used» ∷ q .stop ∷ []
+
+-- the three words of a result: 'places and nodes'
+abbrev pub three : ℕ → ℕ → ℕ → List ℕ
+three a b c = a ∷ b ∷ c ∷ []
+
+abbrev pub replyWords : Reply → List ℕ
+replyWords accepted = three 0 0 0
+replyWords (nodes k i j) = three i j 0
+replyWords (place k p) = three p 0 0
+replyWords (plain k) = three 0 0 0
+
+-- a length that is as the header says
+abbrev pub isMap : List ℕ → Bool
+isMap w = eqb (length w) 289
+
+abbrev pub isView : List ℕ → Bool
+isView w = eqb (length w) 1537
+
+abbrev pub isDevice : List ℕ → Bool
+isDevice w = eqb (length w) 37
+
+abbrev pub isQueue : List ℕ → Bool
+isQueue w = eqb (length w) 7
+
+abbrev pub isResult : List ℕ → Bool
+isResult w = eqb (length w) 3
