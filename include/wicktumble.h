@@ -3,8 +3,8 @@
  * Link with libwicktumble.a (rt staticlib wicktumble). Every call answers every input: no content of a record, no
  * length and no number is trusted. Each returns 0 where it is done and else document 01's number of the
  * refusal. A refused call leaves every record and guest memory as they were, save that 17 to 22 mark the
- * queue as stopped; its result says where. A record, a result or a buffer of the wrong length is refused
- * with 27, and then nothing at all is written.
+ * queue as stopped; its result says where. A record, a result or a buffer of the wrong length, or a queue
+ * with a word too wide for its field, is refused with 27, and then nothing at all is written.
  *
  * A record is an array of 64-bit words in the host's storage, passed as a pointer and a count of words.
  * A pointer must be valid for its count, aligned, and shared with no other argument that is written;
