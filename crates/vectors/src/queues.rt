@@ -68,9 +68,9 @@ fn chain(view: FlatView, number: u64, i: u64, addr: u64, length: u64, flags: u64
     case(number, view, worked(3, 0), four(), mem, addr);
 }
 
-// As they are (PLUG); the other request (STATE); no bytes at a wild address, readable and writable; more
-// bytes than needed, readable and writable (two whole blocks); up to the end of the address space; by
-// the managed region's alias; a response in two elements.
+// In this order: as they are (PLUG); the other request (STATE); an element of no bytes at a wild
+// address, readable, then writable; 256 readable bytes; two whole blocks writable; the last bytes of
+// the address space; the managed region's alias; a response in two elements.
 fn served(view: FlatView) {
     chain(view, 1, 0, 0x1be00, 24, 1, 1);
     chain(view, 2, 0, 0x1be40, 24, 1, 1);
@@ -83,8 +83,8 @@ fn served(view: FlatView) {
     chain(view, 9, 1, 0x1bdd0, 3, 3, 3);
 }
 
-// The response over the used ring, directly and by an alias; over idx and slot; over the request; over its own
-// descriptor; over the available ring.
+// The response over the used slot, by RAM and by the part of it; over used idx and the slot's start;
+// over the request; over its own descriptor; over the available ring.
 fn over(view: FlatView) {
     chain(view, 10, 1, 0x1bd44, 10, 2, 0);
     chain(view, 11, 1, 0xfe44, 10, 2, 0);
@@ -94,8 +94,8 @@ fn over(view: FlatView) {
     chain(view, 15, 1, 0x1bd00, 10, 2, 0);
 }
 
-// 20. INDIRECT: first, later, before 21. Readable after writable: with bytes that are reachable, and before
-// 21. Next 4 and 65,535. NEXT in the fourth, writable and readable.
+// 20. INDIRECT: in the first, in a later one, before 21. Readable after writable: another, the first
+// again. Next 4, next 65,535. NEXT in the fourth: writable, readable, of no bytes.
 fn malformed(view: FlatView) {
     chain(view, 20, 0, 0x1be00, 24, 5, 1);
     chain(view, 21, 1, 0x1bdd0, 10, 6, 0);
@@ -106,11 +106,11 @@ fn malformed(view: FlatView) {
     chain(view, 26, 0, 0x1be00, 24, 1, 65535);
     chain(view, 27, 1, 0x1bdd0, 10, 3, 1);
     chain(view, 28, 0, 0x1be00, 24, 1, 0);
+    chain(view, 29, 1, 0x1bdd0, 0, 3, 1);
 }
 
-// 21. Length 2^32 - 1; over 2^64, from the end and far round; the window in the middle; first byte in a hole;
-// last byte in a hole; a window; a block that its own request plugs; into an unplugged block; past the ten
-// bytes needed; an unplugged block by the alias; past 2^48; before next.
+// 21. Length 2^32 - 1; past 2^64, and far past it; the window in the middle; the first byte in a
+// hole; the last byte in a hole; a window.
 fn unreachable_1(view: FlatView) {
     chain(view, 30, 0, 0x1be00, 0xffffffff, 1, 1);
     chain(view, 31, 1, 0xfffffffffffffff8, 16, 2, 0);
@@ -121,6 +121,8 @@ fn unreachable_1(view: FlatView) {
     chain(view, 36, 1, 0x20000, 10, 2, 0);
 }
 
+// 21. A block that the request itself plugs; the end in an unplugged block, and there past the ten
+// bytes needed; an unplugged block by the alias; past 2^48; before next.
 fn unreachable_2(view: FlatView) {
     chain(view, 37, 1, 0x12000, 10, 2, 0);
     chain(view, 38, 1, 0x11ffc, 10, 2, 0);
@@ -130,13 +132,14 @@ fn unreachable_2(view: FlatView) {
     chain(view, 42, 0, 0x100, 24, 1, 4);
 }
 
-// 22. 23 readable bytes; 9 writable; none writable; none readable; in two elements.
+// 22. 23 readable bytes; 9 writable; none writable; none readable; none readable in an element of no
+// bytes.
 fn misshapen(view: FlatView) {
     chain(view, 50, 0, 0x1be00, 23, 1, 1);
     chain(view, 51, 1, 0x1bdd0, 9, 2, 0);
     chain(view, 52, 0, 0x1be00, 24, 0, 1);
     chain(view, 53, 0, 0x1bdd0, 10, 2, 0);
-    chain(view, 54, 1, 0x1bdd0, 0, 3, 1);
+    chain(view, 54, 0, 0xffffffffffffffff, 0, 1, 1);
 }
 
 // Flags, idx and the head offered, and the two indices.
@@ -150,7 +153,8 @@ fn ring(view: FlatView, number: u64, flags: u64, idx: u64, head: u64, seen: u16,
     case(number, view, worked(3, 0), q, mem, 0x1bc00);
 }
 
-// Flags 1, 2 and 65,535; the other head; indices that go round; slots by seen and by the own count.
+// Flags 1; flags 2; flags 65,535 and the other head; both indices at 65,535; slot 2 offered, slot 3
+// used.
 fn offers(view: FlatView) {
     ring(view, 1, 1, 1, 0, 0, 0);
     ring(view, 2, 2, 1, 0, 0, 0);
@@ -159,8 +163,8 @@ fn offers(view: FlatView) {
     ring(view, 5, 0, 7, 2, 6, 259);
 }
 
-// Idle at 0 and at 65,535. P12: idx 5, idx 4, seen 65,535 with idx 1. 18 more: seen 65,535 with idx 3 and 4; far
-// ahead; one behind; before 19. 19: head 4 and 65,535.
+// Idle at 0 and at 65,535. P12: idx 5, idx 4, seen 65,535 with idx 1. Then seen 65,535 with idx 3
+// and with idx 4.
 fn distances(view: FlatView) {
     ring(view, 10, 1, 0, 9, 0, 0);
     ring(view, 11, 0, 65535, 9, 65535, 1);
@@ -171,6 +175,7 @@ fn distances(view: FlatView) {
     ring(view, 16, 0, 4, 0, 65535, 0);
 }
 
+// 18: far ahead; one behind; before 19. 19: head 4, head 65,535.
 fn heads(view: FlatView) {
     ring(view, 17, 0, 65535, 0, 0, 0);
     ring(view, 18, 0, 8, 0, 9, 0);
@@ -195,8 +200,9 @@ fn areas(view: FlatView, number: u64, table: u64, available: u64, used: u64) {
     );
 }
 
-// All by aliases; all managed; bytes out of reach that the step does not need, in each area; a table that ends at
-// 2^48; a used ring by the alias of the managed region.
+// All by the part of RAM; all managed; out of reach, but not needed: the end of the available ring,
+// the other used slots, the other descriptors; a table that ends at 2^48; a used ring by the managed
+// region's alias.
 fn reachable(view: FlatView) {
     areas(view, 1, 0xfd00, 0xfe00, 0xfe40);
     areas(view, 2, 0x10000, 0x10040, 0x10060);
@@ -207,8 +213,9 @@ fn reachable(view: FlatView) {
     areas(view, 7, 0x1bc00, 0x1bd00, 0x30000);
 }
 
-// 17. Available ring: a hole; idx alone; the entry alone. Table: an unplugged block; a window; the second entry
-// alone. Used ring: a hole; the slot alone; idx alone; the block that the request plugs.
+// 17. Available ring: a hole; idx alone; the entry alone. Table: an unplugged block; a window; the
+// second descriptor alone. Used ring: a hole; the slot alone; idx alone; the block that the request
+// plugs.
 fn out_of_reach(view: FlatView) {
     areas(view, 10, 0x1bc00, 0x1c000, 0x1bd40);
     areas(view, 11, 0x1bc00, 0x1befe, 0x1bd40);
@@ -253,8 +260,8 @@ fn other(
     case(number, view, device, queue, before, also);
 }
 
-// 27: a view with a count of 257; a device with a block plugged outside the usable part; a queue of 3, and a
-// stopped one whose used ring is not aligned.
+// 27: a view with a count of 257; a device with a block plugged outside the usable part; a queue of
+// 3, and a stopped one whose used ring is not aligned.
 fn broken(view: FlatView) {
     let mut wrong = view;
     wrong.count = 257;
@@ -283,8 +290,8 @@ fn unplugs(view: FlatView) {
     other(11, view, worked(3, 0), q, mem, 0x1005c);
 }
 
-// An unplugged block between two that are plugged; the response's ten bytes on six places, the later winning;
-// four descriptors in a queue of four.
+// An unplugged block between two that are plugged; the response's ten bytes on six places, the later
+// winning; four descriptors in a queue of four.
 fn pairs_1(view: FlatView) {
     let mut mem = ready();
     descriptor(&mut mem, 0x1bc00, 0x10ff0, 0x1020, 1, 1);
@@ -311,8 +318,8 @@ fn pairs_2(view: FlatView) {
     other(24, view, worked(3, 0), four(), mem, 0x1bc00);
 }
 
-// A queue of sixteen; the request from the part of RAM into the managed region, the response from the managed
-// region into RAM, each in three elements and one of no bytes.
+// A queue of sixteen; the request from the part of RAM into the managed region, the response from
+// the managed region into RAM, each in three elements and one of no bytes.
 fn split(view: FlatView) {
     let mut mem = [0xeeu8; 0xc000];
     request(&mut mem, 0xfff0, 0, 0x12000, 1);
@@ -335,7 +342,8 @@ fn split(view: FlatView) {
     other(31, view, device, q, mem, 0x18000);
 }
 
-// A queue of one: NEXT in its only descriptor, and a chain that cannot be whole. A queue of 256: the last head.
+// A queue of one: NEXT in its only descriptor, and a chain that cannot be whole. A queue of 256: the
+// last head.
 fn sizes(view: FlatView) {
     let one = queue(1, 0x1bc00, 0x1bd00, 0x1bd40);
     other(40, view, worked(3, 0), one, ready(), 0x1bc00);

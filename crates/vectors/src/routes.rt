@@ -76,7 +76,7 @@ fn plain(view: FlatView, number: u64, a: u64, width: u64) {
     access(view, worked(3, 0), number, a, width);
 }
 
-// Each width in RAM, and four that are none, one of them in a hole.
+// Each width, in RAM and in its two parts; then widths that are none: 0, 3, 16 in a hole, 2^64 - 1.
 fn widths(view: FlatView) {
     plain(view, 1, 0x18001, 1);
     plain(view, 2, 0x18001, 2);
@@ -88,7 +88,8 @@ fn widths(view: FlatView) {
     plain(view, 8, 0x18000, 0xffffffffffffffff);
 }
 
-// Windows. Holes: at 0, one byte before RAM, at the end of all numbers.
+// In windows. Then holes: at 0, a byte before RAM, the last of all numbers, with width 1 and 8, and
+// 2^48.
 fn places(view: FlatView) {
     plain(view, 10, 0x20010, 4);
     plain(view, 11, 0x1bf03, 1);
@@ -100,8 +101,8 @@ fn places(view: FlatView) {
     plain(view, 17, 0x1000000000000, 1);
 }
 
-// Out of RAM into the managed region, out of that into RAM with no block plugged there, over the small window, out
-// of a window, out of RAM into nothing, out of the address space.
+// 25. Out of RAM into managed; out of managed, where no block is plugged, into RAM; into the small
+// window, and out of it; out of the other window; out of RAM; out of the address space.
 fn splits(view: FlatView) {
     plain(view, 20, 0xffff, 2);
     plain(view, 21, 0x17ffc, 8);
@@ -112,8 +113,8 @@ fn splits(view: FlatView) {
     plain(view, 26, 0xffffffffffff, 2);
 }
 
-// Plugged blocks; over two of them; into an unplugged one; out of one into a plugged one; the same by the alias; a
-// device that breaks its rules.
+// A plugged block; over two of them; into an unplugged one; in that; by the alias in a plugged one,
+// and into an unplugged one; out of an unplugged one; a device that breaks its rules.
 fn blocks(view: FlatView) {
     plain(view, 30, 0x10000, 8);
     plain(view, 31, 0x10ffc, 8);
@@ -125,8 +126,8 @@ fn blocks(view: FlatView) {
     access(view, worked(3, 4), 37, 0x18000, 1);
 }
 
-// RAM of region 0 from 0x1000 to 0x1fff, and after it one more range. The access goes from the first into one
-// of the same region, and else to 0x2000.
+// RAM of region 0 from 0x1000 to 0x1fff, and after it one more range. The access goes from the first
+// into one of the same region, and else to 0x2000.
 fn list(number: u64, first: u64, last: u64, region: usize, offset: u64, kind: u64, base: u64) {
     let mut view = empty_view();
     view.count = 2;
@@ -153,8 +154,8 @@ fn list(number: u64, first: u64, last: u64, region: usize, offset: u64, kind: u6
     }
 }
 
-// Two ranges that continue, though not joined; a gap of offsets; another region; the last region number; one too many; an
-// unknown kind, and those of container and alias.
+// Two ranges that continue, though not joined; offsets that do not; the last region number; one too
+// many; an unknown kind, and those of container and alias.
 fn lists_1() {
     list(40, 0x2000, 0x2fff, 0, 0x1000, 1, 0);
     list(41, 0x2000, 0x2fff, 0, 0x1001, 1, 0);
@@ -165,7 +166,8 @@ fn lists_1() {
     list(46, 0x2000, 0x2fff, 1, 0, 3, 0);
 }
 
-// Out of order; sharing one address; ranges of one region with unequal kind, and base; first over last, by one.
+// Out of order; one address shared; one region with two kinds, and with two bases; first over last;
+// one byte.
 fn lists_2() {
     list(50, 0, 0xfff, 1, 0, 1, 0);
     list(51, 0x1fff, 0x2fff, 1, 0, 1, 0);
@@ -175,7 +177,7 @@ fn lists_2() {
     list(55, 0x2000, 0x2000, 1, 0, 1, 0);
 }
 
-// Last below 2^48 and at it; the offset at last below 2^48 and at it, and over 2^64; a port of any size.
+// Last below 2^48, and at it; the offset there below 2^48, at it, and over 2^64; a port of any size.
 fn lists_3() {
     list(60, 0x2000, 0xffffffffffff, 1, 0, 2, 7);
     list(61, 0x2000, 0x1000000000000, 1, 0, 2, 7);
@@ -185,8 +187,8 @@ fn lists_3() {
     list(65, 0x2000, 0x2fff, 1, 0, 2, 0xffffffffffffffff);
 }
 
-// Memory up to its end and one byte past it, and a start past 2^64; managed up to the region's end and one byte past it,
-// and managed past the memory.
+// Memory up to its end, a byte past it, and past 2^64. Managed: up to the region's end, a byte past
+// it, and past the memory.
 fn lists_4() {
     list(70, 0x2000, 0x2fff, 1, 0, 1, 0xb000);
     list(71, 0x2000, 0x2fff, 1, 0, 1, 0xb001);
@@ -196,13 +198,15 @@ fn lists_4() {
     list(75, 0x2000, 0x2fff, 1, 0, 4, 0xb001);
 }
 
-// An empty view, and counts over 256. What stands past the count is not judged.
+// The same view with another count.
 fn counted(view: FlatView, number: u64, count: usize) {
     let mut other = view;
     other.count = count;
     plain(other, number, 0x18000, 8);
 }
 
+// No ranges; only three; 257 and 2^64 - 1, which are too many; a wild range past the count, which is
+// not judged.
 fn counts(view: FlatView) {
     counted(view, 80, 0);
     counted(view, 81, 3);
@@ -245,7 +249,7 @@ fn made(number: u64, size: u16, descriptors: u64, available: u64, used: u64) {
     );
 }
 
-// 16: sizes; alignments; ends at 2^48 and past it; past 2^64.
+// 16: size 0, 3 and 512, but 1 and 256 are sizes; each alignment.
 fn made_sizes() {
     made(1, 0, 0x1bc00, 0x1bd00, 0x1bd40);
     made(2, 3, 0x1bc00, 0x1bd00, 0x1bd40);
@@ -257,6 +261,7 @@ fn made_sizes() {
     made(8, 4, 0x1bc00, 0x1bd00, 0x1bd42);
 }
 
+// 16: the areas end at 2^48, or just before; each past it; each past 2^64.
 fn made_ends() {
     made(10, 4, 0xffffffffffc0, 0xfffffffffff2, 0xffffffffffd8);
     made(11, 4, 0xffffffffffd0, 0x1bd00, 0x1bd40);

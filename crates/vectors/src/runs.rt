@@ -54,7 +54,7 @@ fn case(
     changes(before, after, 0x10000);
 }
 
-// A ring with the heads 0, 2, 2 and one more.
+// The heads 0, 2, 2 and one more in the ring; both indices at seen.
 fn heads(
     view: FlatView,
     number: u64,
@@ -76,8 +76,8 @@ fn heads(
     case(number, view, worked(3, 0), q, mem, k);
 }
 
-// None; one; two, then idle; all four; the fourth is refused, with more steps and with as many as are served;
-// 300 and 2^64 - 1, then idle.
+// None; one; two, then idle; all four; the fourth is refused, with more steps and with as many as
+// are served; 300 and 2^64 - 1, then idle.
 fn counts(view: FlatView) {
     heads(view, 1, 0, 0, 4, 0, 0, 0);
     heads(view, 2, 1, 0, 4, 0, 0, 0);
@@ -89,8 +89,8 @@ fn counts(view: FlatView) {
     heads(view, 8, 0xffffffffffffffff, 0, 2, 0, 0, 0);
 }
 
-// P12's last case; no notify; idle at once; 18 at once; a stopped queue, with steps and with none; a stop that is none, with
-// no steps.
+// P12's last case; no notify; idle at once; 18 at once; a stopped queue, with steps and with none; a
+// stop that is none, with no steps.
 fn ends(view: FlatView) {
     heads(view, 10, 3, 0, 1, 0, 65535, 0);
     heads(view, 11, 4, 1, 4, 0, 0, 0);
