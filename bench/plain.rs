@@ -167,30 +167,6 @@ pub fn route_judged(
     }
 }
 
-/// wt_route_all's work: judge once, then route each.
-pub fn route_all_judged(
-    view: &[u64],
-    memory_length: u64,
-    device: Option<&Device>,
-    accesses: &[u64],
-    routes: &mut [u64],
-) -> u64 {
-    if device.is_some_and(|d| !judge_device(d)) {
-        return 27;
-    }
-    let Some(ranges) = judge_view(view, memory_length, device.map(|d| d[2])) else { return 27 };
-    route_all(ranges, device, accesses, routes);
-    0
-}
-
-pub fn route_all(ranges: &[Range], device: Option<&Device>, accesses: &[u64], routes: &mut [u64]) {
-    for (access, out) in accesses.chunks_exact(2).zip(routes.chunks_exact_mut(4)) {
-        let (number, result) = route(ranges, device, access[0], access[1]);
-        out[0] = number;
-        out[1..].copy_from_slice(&result);
-    }
-}
-
 // ------------------------------------------------------------------------------------------- device
 
 fn bit_mask(word: u64, first: u64, end: u64) -> u64 {

@@ -19,7 +19,7 @@ use Rattle.virtqueue.specs.Guest.{Leaf, nowhere, leaf, Guest, byView, al
 use Rattle.virtqueue.specs.Queue.{areasOk, stopOk, queueOk, made, ringEntry, distance}
 use Rattle.virtqueue.specs.Chain.{Chain, whole, ended, refused, element, misplaced, hasNext, isWritable, visit, follow, endOf, readable, writable, total, shapeOf, chainAt, fetched, reached}
 use Rattle.virtqueue.specs.Route.{widthOk, isNowhere, follows, isOpen, target, routed}
-use Rattle.virtqueue.specs.Step.{Offer, stop, idle, ready, noticesOf, headOf, chainOf, usedReached, offerChain, offerHead, offerNotices, offered, finished, servedResult, notifies, steppedBy, recordsOk, stepped}
+use Rattle.virtqueue.specs.Step.{Offer, stop, idle, ready, noticesOf, headOf, chainOf, usedReached, offerChain, offerHead, offerNotices, offered, finished, servedResult, notifies, headChain, noticesChain, comesTo, steppedBy, recordsOk, stepped}
 use Rattle.virtqueue.specs.Causes.{refusedBy, routeRefusedBy, is16, idx, entry, chain, noticed, pending, ahead, offers, entered, headed, chained, short, shaped, cause17, cause18, cause19, cause20, cause21, cause22, cause23, cause24, cause25, cause26}
 use Rattle.virtqueue.specs.declared.chain.Descriptor.{Descriptor}
 use Rattle.virtqueue.specs.declared.chain.Fetched.{Fetched}
@@ -285,6 +285,29 @@ module _ (g : Guest) (d : MemoryDevice) (memory : List ℕ) (q : SplitQueue) whe
       go true true false true true s u _ at17 = refl
       go true true false true true s u _ at20 = refl
       go true true false true true s u _ at21 = refl
+
+  -- 'accepts its addresses unless 21 ends it there': a step ends with 21 exactly when the last element that it comes to is one that it does not accept
+  pub accepts-by-21 : q .stop ≡ 0 → refusedBy 21 result ≡ eqb (endOf (comesTo g memory q)) 21
+  unfolding comesTo noticesOf headOf endOf
+  accepts-by-21 z =
+      refused-21 z
+      ∙ go (noticed g memory q) (eqb (idx g memory q) (q .«next_available»)) (ahead g memory q) (allReach (g .reach) (ringEntry q) 2) (ltb (entry g memory q) (q .size))
+      ∙ ap (λ (x : Bool). eqb (endOf (cond x (noticesChain g memory q (noticesOf g memory q)) (ended (q .stop)))) 21) (sym (let e : eqb (q .stop) 0 ≡ true = rw z in e))
+    where
+      by-head : (r h : Bool)
+          → ((r && h) && eqb (endOf (chain g memory q)) 21)
+          ≡ eqb (endOf (headChain g memory q (cond r (cond h (head.At (entry g memory q)) (head.Stop 19)) (head.Stop 17)))) 21
+      by-head true true = refl
+      by-head true false = refl
+      by-head false h = refl
+
+      go : (n i a r h : Bool)
+          → (((n && not i && not a) && allReach (g .reach) (ringEntry q) 2 && ltb (entry g memory q) (q .size)) && eqb (endOf (chain g memory q)) 21)
+          ≡ eqb (endOf (noticesChain g memory q (cond n (cond i notices.Idle (cond a (notices.Stop 18) (notices.Offered (notifies (numberAt (g .place) memory (q .available .0) 2))))) (notices.Stop 17)))) 21
+      go true true a r h = refl
+      go true false true r h = refl
+      go true false false r h = by-head (allReach (g .reach) (ringEntry q) 2) (ltb (entry g memory q) (q .size))
+      go false i a r h = refl
 
   -- 'stopped (same number again)'
   pub stopped-again : (q .stop ≡ 0 → ⊥) → result ≡ Refused (q .stop)

@@ -37,7 +37,8 @@ use Rattle.virtqueue.specs.declared.take.HeadEntry.the-variants as head
 use Rattle.virtqueue.specs.declared.step.StepOutcome.{StepOutcome}
 use Rattle.virtqueue.specs.declared.step.StepOutcome.the-variants.{Refused, Idle, Served}
 use Rattle.virtqueue.proofs.GuestLaws.{all-each}
-use Rattle.virtqueue.proofs.ReachedLaws.{Every, every-append, every-weaken, map-same, Reaches, every-address, all-reached, number-same, Whole, every-byte, Judged, every-readable, every-writable, chain-judged}
+use Rattle.virtqueue.proofs.ReachLaws.{all-true}
+use Rattle.virtqueue.proofs.ReachedLaws.{Every, every-append, every-weaken, map-same, Reaches, every-address, number-same, Whole, every-byte, Judged, every-readable, every-writable, chain-judged}
 use Rattle.virtqueue.proofs.TreeLaws.{view-leaf}
 
 -- Over any guest.
@@ -148,7 +149,7 @@ module _ (m : RegionMap) (size : ℕ) (ok : Accepted m size) (few : length (flat
   exactly : (c : Chain) → Judged (g .reach) c → Exactly (Led m d) c
   exactly whole p = tt
   exactly (ended k) p = tt
-  exactly (refused e) p = λ led. never (sym (all-reached (g .reach) (e .addr .0) (e .length) (λ i h. reach-leads (e .addr .0 + i) ∙ led i h)) ∙ p)
+  exactly (refused e) p = λ led. never (sym (all-true (g .reach) (e .addr .0) (e .length) (λ i h. reach-leads (e .addr .0 + i) ∙ led i h)) ∙ p)
   exactly (element e c) p =
       ((λ i h. sym (reach-leads (e .addr .0 + i)) ∙ all-each (g .reach) (e .addr .0) (e .length) i (p .0) h), exactly c (p .1))
 

@@ -16,12 +16,9 @@ use Rattle.region_map.specs.ViewRules.{rangeOf}
 use Rattle.region_map.specs.declared.view.FlatRange.{FlatRange}
 use Rattle.region_map.specs.declared.view.FlatView.{FlatView}
 use Rattle.region_map.proofs.Bools.{and-off}
+use Rattle.memory_device.proofs.TableLaws.{side}
 use Rattle.virtqueue.specs.Guest.{nowhere, leafIn, leafAt}
 use Rattle.virtqueue.specs.Contracts.{Ordered, Spot}
-
--- either an order or the other one
-pub side : (i n : ℕ) → (i < n) ⊎ (n ≤ i)
-side i n = ⊎-elim (λ z. inr (omega arith)) (λ p. inl (omega arith)) (eq-zero-or-pos (n - i))
 
 -- a range holds an address, or ends before it, or starts behind it
 in-range : (r : FlatRange) (a : ℕ) → r .first .0 ≤ a → a ≤ r .last .0 → inside r a ≡ true

@@ -18,7 +18,8 @@ use Rattle.virtqueue.specs.Guest.{reachKind, reachLeaf, byView, allReach
 use Rattle.virtqueue.specs.Contracts.{Ordered, Spot, Extends}
 use Rattle.virtqueue.specs.declared.reach.Extent.{Extent}
 use Rattle.virtqueue.specs.declared.reach.Extent.the-variants.{Go, Stop}
-use Rattle.virtqueue.proofs.FindLaws.{side, ends-before, none-holds, at-range}
+use Rattle.memory_device.proofs.TableLaws.{side}
+use Rattle.virtqueue.proofs.FindLaws.{ends-before, none-holds, at-range}
 
 -- a block goes on to its last byte
 same-block : (b o e : ℕ) → 0 < b → e ≤ b - 1 - o % b → (o + e) / b ≡ o / b

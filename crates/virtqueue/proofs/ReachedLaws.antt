@@ -3,7 +3,6 @@ use mathlib.Core.Path.{_≡_, refl, sym, ap, ap₂, _∙_}
 use mathlib.Core.Bool.{Bool, true, false, cond, _&&_, _||_}
 use mathlib.Core.List.{List, [], _∷_, _++_, map}
 use Prim.Native.Nat.{ℕ, zero, suc, _+_, _-_, _*_, _≤_, _<_, min}
-use native.Mathlib.Nat.{add-zero}
 use native.Mathlib.Omega.{arith}
 use lib.Dec.{ltb}
 use lib.ListN.{getD}
@@ -42,15 +41,6 @@ module _ (reach : ℕ → Bool) where
   every-address a zero (suc k) h p = absurd (omega arith)
   every-address a (suc n) (suc k) h p =
       (and-fst (reach a) (allReach reach (suc a) n) p, every-address (suc a) n k (omega arith) (and-snd (reach a) (allReach reach (suc a) n) p))
-
-  -- a stretch each of whose bytes is reachable
-  pub all-reached : (a n : ℕ) → ((i : ℕ) → i < n → reach (a + i) ≡ true) → allReach reach a n ≡ true
-  unfolding allReach
-  all-reached a zero f = refl
-  all-reached a (suc n) f =
-      let p : reach a ≡ true = ap reach (sym (add-zero a)) ∙ f 0 (omega arith) in
-      let q : allReach reach (suc a) n ≡ true = all-reached (suc a) n (λ i h. let e : suc a + i ≡ a + suc i = omega arith in ap reach e ∙ f (suc i) (omega arith)) in
-      rw (p, q)
 
   -- two readings of the places of reachable bytes give one number
   pub number-same : (f g : ℕ → ℕ) (memory : List ℕ) → ((a : ℕ) → reach a ≡ true → f a ≡ g a) → (a k : ℕ) → allReach reach a k ≡ true

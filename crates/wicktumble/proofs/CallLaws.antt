@@ -39,6 +39,7 @@ use Rattle.virtqueue.specs.declared.step.StepOutcome.{StepOutcome}
 use Rattle.virtqueue.specs.declared.step.StepOutcome.the-variants as outcome
 use Rattle.virtqueue.specs.declared.step.Stepped.{Stepped}
 use Rattle.virtqueue.specs.declared.run.Ran.{Ran}
+use Rattle.wicktumble.proofs.DeviceWords.{map-zero, passing, stopping}
 use Rattle.wicktumble.specs.Words.{mapOf, mapWords, viewOf, viewWords, deviceOf, deviceWords, queueFits, queueOf, queueWords, three, replyWords, isMap, isView, isDevice, isQueue, isResult}
 use Rattle.wicktumble.specs.Maps.{readCall, checkCall, answerWords, walkCall, flattenCall}
 use Rattle.wicktumble.specs.Queues.{makeCall, resetQueueCall, recordsFit, outcomeNumber, outcomeWords, stepCall, endNumber, isIdle, runCall}
@@ -241,36 +242,25 @@ module _ (v : List ℕ) (m : ℕ) (d : List ℕ) (a w : ℕ) (x : List ℕ) wher
 -- ---- Maps
 
 -- an answer's number is 0 where it passes, and not else
-map-number : (a : MapAnswer) → eqb (numberOf (reply a)) 0 ≡ passes (reply a)
-map-number map.Accepted = refl
-map-number map.Count = refl
-map-number (map.Kind n) = refl
-map-number (map.Field n) = refl
-map-number (map.Link n) = refl
-map-number (map.Memory i j) = refl
-map-number (map.Managed i j) = refl
-map-number (map.Port i j) = refl
-map-number (map.Overlap i j) = refl
-
 sheet-number : (a : SheetAnswer) → eqb (numberOf (sheetReply a)) 0 ≡ passes (sheetReply a)
 sheet-number (read.Short p) = refl
 sheet-number (read.Number p) = refl
 sheet-number (read.Count p) = refl
 sheet-number (read.Kind p) = refl
 sheet-number (read.Tail p) = refl
-sheet-number (read.Checked a) = map-number a
+sheet-number (read.Checked a) = map-zero a
 
 flat-number : (a : FlatAnswer) → eqb (numberOf (flat.flatReply a)) 0 ≡ passes (flat.flatReply a)
-flat-number (view.Checked a) = map-number a
+flat-number (view.Checked a) = map-zero a
 flat-number view.TooMany = refl
 
 -- the words that an answer leaves, once it is known whether its number is 0
 put-new : (r : Reply) (new old : List ℕ) {n : ℕ} {w : List ℕ} → eqb (numberOf r) 0 ≡ passes r → n ≡ numberOf r → n ≡ 0 → w ≡ new → w ≡ cond (passes r) new old
-put-new r new old k e z ew = rw (← k, eq-eqb (numberOf r) 0 (sym e ∙ z)) ew
+put-new r new old k e z ew = rw (passing r _ e k z) ew
 
 kept-old : (r : Reply) (new old : List ℕ) {n : ℕ} {w : List ℕ} → eqb (numberOf r) 0 ≡ passes r → n ≡ numberOf r → (n ≡ 0 → ⊥) → w ≡ old
     → w ≡ cond (passes r) new old
-kept-old r new old k e nz ew = rw (← k, ne-eqb (numberOf r) 0 (λ z. nz (e ∙ z))) ew
+kept-old r new old k e nz ew = rw (stopping r _ e k nz) ew
 
 pub map-fits : (w x : List ℕ) → (isMap w && isResult x) ≡ true → (length w ≡ 289) × (length x ≡ 3)
 map-fits w x e = (eqb-true (length w) 289 (and-fst (isMap w) _ e), eqb-true (length x) 3 (and-snd (isMap w) _ e))

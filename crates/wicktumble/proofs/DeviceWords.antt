@@ -31,15 +31,12 @@ use Rattle.memory_device.specs.declared.setup.SetUp.{SetUp}
 use Rattle.memory_device.specs.declared.setup.SetUpAnswer.{SetUpAnswer}
 use Rattle.memory_device.specs.declared.setup.SetUpAnswer.the-variants as setup
 use Rattle.wicktumble.specs.Words.{mapOf, deviceOf, deviceWords, queueFits, replyWords, isMap, isDevice, isResult}
+use Rattle.wicktumble.proofs.WordLaws.{sets-append, over}
 use Rattle.wicktumble.specs.Devices.{changes, onDevice, setUpCall, configurationCall}
 
--- stores over a whole list; two runs of stores, one after the other
-pub over : (vs w : List ℕ) → length w ≡ length vs → sets w 0 vs ≡ vs
-over vs w e = rw (sets-eq vs w 0 (omega arith), drop-of-length-le w {i = 0 + length vs} (omega arith), append-nil vs)
-
+-- two runs of stores, one after the other
 sets-sets : (vs us w : List ℕ) (i n : ℕ) → i + length vs ≡ n → sets (sets w i vs) n us ≡ sets w i (vs ++ us)
-sets-sets [] us w i n e = ap (λ (k : ℕ). sets w k us) (omega arith)
-sets-sets (v ∷ vs) us w i n e = sets-sets vs us (set w i v) (suc i) n (omega arith)
+sets-sets vs us w i n e = ap (λ (k : ℕ). sets (sets w i vs) k us) (sym e) ∙ sym (sets-append w i vs us)
 
 pub device-stored : (w : List ℕ) (d : MemoryDevice) → length w ≡ 37 → length (d .plugged) ≡ 16 → length (d .pinned) ≡ 16
     → sets (sets (sets w 0 (d .«block_size» ∷ d .addr ∷ d .«region_size» ∷ d .«usable_size» ∷ d .«requested_size» ∷ [])) 5 (d .plugged)) 21 (d .pinned) ≡ deviceWords d
