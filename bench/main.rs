@@ -19,6 +19,7 @@ use std::time::Instant;
 
 #[rustfmt::skip]
 extern "C" {
+    fn wt_read_sheet(sheet: *const u8, sheet_len: usize, memory_length: u64, map: *mut u64, map_words: usize, result: *mut u64, result_words: usize) -> u64;
     fn wt_flatten(map: *const u64, map_words: usize, memory_length: u64, view: *mut u64, view_words: usize, result: *mut u64, result_words: usize) -> u64;
     fn wt_route(view: *const u64, view_words: usize, memory_length: u64, device: *const u64, device_words: usize, address: u64, width: u64, result: *mut u64, result_words: usize) -> u64;
     fn wt_step(view: *const u64, view_words: usize, device: *mut u64, device_words: usize, queue: *mut u64, queue_words: usize, memory: *mut u8, memory_len: usize, result: *mut u64, result_words: usize) -> u64;
@@ -131,7 +132,9 @@ fn accesses(runs: &[Run]) -> Vec<u64> {
 
 // ----------------------------------------------------------------------------------------------- routing
 
-fn routing() {
+/// The library's time at each number of ranges.
+fn routing() -> Vec<(u64, f64)> {
+    let mut library = vec![];
     println!("\n## Routing of one access, by the number of ranges\n");
     println!(
         "Every access succeeds; ranges and widths at random. `wt_route` judges view and device on each call.\n"
@@ -193,7 +196,9 @@ fn routing() {
             time(t[3]),
             ratio(t[0], t[3]),
         );
+        library.push((count, t[0]));
     }
+    library
 }
 
 // ------------------------------------------------------------------------------------------------- steps
@@ -549,11 +554,27 @@ fn ordinary() -> (Vec<Node>, u64) {
     (nodes, 1 << 20)
 }
 
+/// What stands at the bottom of a tower.
+#[derive(Clone, Copy, PartialEq)]
+enum Bottom {
+    /// Nothing: each address is looked for along every way.
+    Hole,
+    /// A byte at each end, nothing between: many short runs, far apart.
+    Ends,
+    /// RAM all over: each way shows more of it.
+    Whole,
+}
+
 /// Levels of containers, each showing the one below `ways` times (once as a child, else by aliases), laid
-/// over each other and shifted so that all edges differ. At the bottom is a hole, so that each address is
-/// looked for along every way: ways^levels of them.
-fn tower(ways: u64, levels: u32, shifted: bool, leaf: u64) -> Vec<Node> {
-    let mut nodes = vec![Node { kind: CONTAINER, size: leaf, ..Node::default() }];
+/// over each other and shifted so that all edges differ: there are ways^levels ways through it.
+fn tower(ways: u64, levels: u32, shifted: bool, bottom: Bottom, leaf: u64) -> Vec<Node> {
+    let end = |offset, start| Node { kind: RAM, parent: 3, offset, size: 1, start, ..Node::default() };
+    let mut nodes = match bottom {
+        Bottom::Ends => vec![end(0, 0), end(leaf - 1, 1)],
+        _ => vec![],
+    };
+    let kind = if bottom == Bottom::Whole { RAM } else { CONTAINER };
+    nodes.push(Node { kind, size: leaf, ..Node::default() });
     let mut shift = 1;
     for _ in 0..levels {
         let below = nodes.len() - 1;
@@ -579,6 +600,29 @@ fn tower(ways: u64, levels: u32, shifted: bool, leaf: u64) -> Vec<Node> {
     nodes
 }
 
+/// The largest of QEMU's maps in tests/qemu-flat.txt: its name and its words.
+fn largest_of_qemu() -> (String, Vec<u64>) {
+    let mut name = "";
+    let mut best = (0, String::new(), vec![]);
+    for line in include_str!("../tests/qemu-flat.txt").lines() {
+        if let Some(rest) = line.strip_prefix("# ") {
+            name = rest;
+        } else if let Some(hex) = line.strip_prefix("sheet ") {
+            let byte = |i| u8::from_str_radix(&hex[i..i + 2], 16).unwrap();
+            let sheet: Vec<u8> = (0..hex.len()).step_by(2).map(byte).collect();
+            let (mut map, mut result) = (vec![0u64; 289], [0u64; 3]);
+            let m = map.as_mut_ptr();
+            let r = result.as_mut_ptr();
+            let number =
+                unsafe { wt_read_sheet(sheet.as_ptr(), sheet.len(), 1 << 48, m, 289, r, 3) };
+            if number == 0 && sheet.len() > best.0 {
+                best = (sheet.len(), name.to_string(), map);
+            }
+        }
+    }
+    (best.1, best.2)
+}
+
 fn flatten(map: &[u64], length: u64, view: &mut [u64]) -> u64 {
     let mut result = [0u64; 3];
     let v = view.as_mut_ptr();
@@ -593,10 +637,14 @@ fn flat_views() {
     let mut view = vec![0u64; model::VIEW];
     let mut model_view = view.clone();
     let mut result = [0u64; 3];
-    for (name, (nodes, length)) in
-        [("31 regions side by side", ordinary()), ("two leaves doubled seven times", doubled())]
-    {
-        let map = model::map_words(&nodes);
+    let (qemu, qemu_words) = largest_of_qemu();
+    let ordinary = ordinary();
+    let doubled = doubled();
+    for (name, map, length) in [
+        (format!("the largest of QEMU's: {qemu}"), qemu_words, 1 << 48),
+        ("31 regions side by side".into(), model::map_words(&ordinary.0), ordinary.1),
+        ("two leaves doubled seven times".into(), model::map_words(&doubled.0), doubled.1),
+    ] {
         let number = flatten(&map, length, &mut view);
         let expected = model::calls::flatten(&map, length, &mut model_view, &mut result);
         assert_eq!((number, &view), (expected, &model_view), "{name}");
@@ -616,37 +664,45 @@ fn flat_views() {
         ]);
         println!(
             "| {name} | {} | {runs} | {} | {} | {} |",
-            nodes.len(),
+            map[0],
             time(t[0]),
             time(t[1]),
             ratio(t[0], t[1])
         );
     }
-    println!("\nThe worst maps found: towers of aliases over each other with a hole at the bottom (the number of ways through the tree is ways^levels). Best of seven calls, or one where it takes over a tenth of a second; a family ends where a call takes over two seconds.\n");
+    println!("\nThe worst maps found: towers of aliases over each other (the number of ways through the tree is ways^levels), with nothing at the bottom, with a byte at each end of it, or with RAM. Best of seven calls, or one where it takes over a tenth of a second; a family ends where a call takes over two seconds.\n");
     println!(
-        "| ways | levels | regions | ways through | edges | runs | wt_flatten | model | ratio |"
+        "| bottom | ways | levels | regions | ways through | edges | answer | wt_flatten | model | ratio |"
     );
-    println!("|---|---|---|---|---|---|---|---|---|");
+    println!("|---|---|---|---|---|---|---|---|---|---|");
     let mut worst = (0.0, String::new());
-    for (ways, shifted) in [(2u64, true), (3, true), (4, true), (3, false)] {
+    let hole = [(2u64, true), (3, true), (4, true), (3, false)].map(|(w, s)| (Bottom::Hole, w, s));
+    let ends = [(2u64, true), (3, true), (4, true)].map(|(w, s)| (Bottom::Ends, w, s));
+    let whole = [(2u64, true), (3, true), (4, true)].map(|(w, s)| (Bottom::Whole, w, s));
+    for (bottom, ways, shifted) in hole.into_iter().chain(ends).chain(whole) {
         for levels in 1.. {
-            let nodes = tower(ways, levels, shifted, 1 << 24);
+            let nodes = tower(ways, levels, shifted, bottom, 1 << 24);
             if nodes.len() > 32 {
                 break;
             }
             let map = model::map_words(&nodes);
             let (mut number, mut expected) = (0, 0);
-            let library = few(&mut || number = flatten(&map, 0, &mut view));
+            let library = few(&mut || number = flatten(&map, 1 << 24, &mut view));
             let plain = few(&mut || {
-                expected = model::calls::flatten(&map, 0, &mut model_view, &mut result);
+                expected = model::calls::flatten(&map, 1 << 24, &mut model_view, &mut result);
             });
             assert_eq!((number, &view), (expected, &model_view));
             let line = format!(
-                "| {ways} | {levels} | {} | {} | {} | {} | {} | {} | {} |",
+                "| {} | {ways} | {levels} | {} | {} | {} | {} | {} | {} | {} |",
+                match bottom {
+                    Bottom::Hole => "nothing",
+                    Bottom::Ends => "ends",
+                    Bottom::Whole => "RAM",
+                },
                 nodes.len(),
                 ways.pow(levels),
                 if shifted { "all differ" } else { "the same" },
-                view[0],
+                if number == 0 { format!("{} runs", view[0]) } else { format!("refused {number}") },
                 time(library),
                 time(plain),
                 ratio(library, plain)
@@ -667,8 +723,8 @@ fn flat_views() {
 
 // ---------------------------------------------------------------------------- vm-memory, where installed
 
-/// OPTIONAL: only where Debian's source packages are installed; else one line says so.
-fn vm_memory() {
+/// Only where Debian's librust-vm-memory-dev is installed; else one line says so.
+fn vm_memory(library: &[(u64, f64)]) {
     println!("\n## vm-memory\n");
     let registry = std::path::Path::new("/usr/share/cargo/registry");
     let found = std::fs::read_dir(registry).ok().and_then(|entries| {
@@ -687,11 +743,24 @@ fn vm_memory() {
     let folder = std::env::temp_dir().join(format!("wicktumble-vm-memory-{}", std::process::id()));
     let outcome = vm_memory_in(&folder, registry);
     let _ = std::fs::remove_dir_all(&folder);
-    match outcome {
-        Ok(text) => println!("{found}: `get_slice` of one access in RAM, trusted map.\n\n{text}"),
+    let text = match outcome {
+        Ok(text) => text,
         Err(error) => {
-            println!("Not measured: {found} is there but does not build offline: {error}")
+            println!("Not measured: {found} is there but does not build offline: {error}");
+            return;
         }
+    };
+    println!("{found}, which trusts its map: `get_slice` (lookup) and `read_obj` (lookup and read) of one access in RAM.\n");
+    println!("| ranges | get_slice | read_obj | wt_route | ratio to read_obj |\n|---|---|---|---|---|");
+    for (line, (count, ours)) in text.lines().zip(library) {
+        let times: Vec<f64> = line.split(' ').map(|t| t.parse().unwrap()).collect();
+        println!(
+            "| {count} | {} | {} | {} | {} |",
+            time(times[0]),
+            time(times[1]),
+            time(*ours),
+            ratio(*ours, times[1])
+        );
     }
 }
 
@@ -715,9 +784,17 @@ fn vm_memory_in(folder: &std::path::Path, registry: &std::path::Path) -> Result<
     write(
         "src/main.rs",
         r#"use std::{hint::black_box, time::Instant};
-use vm_memory::{GuestAddress, GuestMemory, GuestMemoryMmap};
+use vm_memory::{Bytes, GuestAddress, GuestMemory, GuestMemoryMmap};
+fn median(mut call: impl FnMut()) -> f64 {
+    let mut times: Vec<f64> = (0..15).map(|_| {
+        let start = Instant::now();
+        for _ in 0..200 { call(); }
+        start.elapsed().as_secs_f64() * 1e9 / (200.0 * 256.0)
+    }).collect();
+    times.sort_by(f64::total_cmp);
+    times[7]
+}
 fn main() {
-    println!("| ranges | get_slice |\n|---|---|");
     for count in [4u64, 16, 64, 256] {
         let ranges: Vec<_> = (0..count).map(|i| (GuestAddress(i * 8192), 4096usize)).collect();
         let memory: GuestMemoryMmap<()> = GuestMemoryMmap::from_ranges(&ranges).unwrap();
@@ -726,17 +803,19 @@ fn main() {
             seed ^= seed << 13; seed ^= seed >> 7; seed ^= seed << 17;
             ((seed >> 20) % count * 8192 + (seed >> 40) % 510 * 8, 1usize << (seed % 4))
         }).collect();
-        let mut times: Vec<f64> = (0..15).map(|_| {
-            let start = Instant::now();
-            for _ in 0..200 {
-                for &(address, width) in &accesses {
-                    black_box(memory.get_slice(GuestAddress(black_box(address)), width).is_ok());
-                }
-            }
-            start.elapsed().as_secs_f64() * 1e9 / (200.0 * 256.0)
-        }).collect();
-        times.sort_by(f64::total_cmp);
-        println!("| {count} | {:.1} ns |", times[7]);
+        let lookup = median(|| for &(address, width) in &accesses {
+            black_box(memory.get_slice(GuestAddress(black_box(address)), width).is_ok());
+        });
+        let read = median(|| for &(address, width) in &accesses {
+            let a = GuestAddress(black_box(address));
+            black_box(match width {
+                1 => u64::from(memory.read_obj::<u8>(a).unwrap()),
+                2 => u64::from(memory.read_obj::<u16>(a).unwrap()),
+                4 => u64::from(memory.read_obj::<u32>(a).unwrap()),
+                _ => memory.read_obj::<u64>(a).unwrap(),
+            });
+        });
+        println!("{lookup} {read}");
     }
 }
 "#,
@@ -760,9 +839,9 @@ fn main() {
         "Medians of {ROUNDS} rounds; a ratio is the library's time over the peer's. `same checks`: plain Rust \
          that judges all records on each call; `trusted`: the same without judging them again."
     );
-    routing();
+    let routed = routing();
     steps();
     long_elements();
     flat_views();
-    vm_memory();
+    vm_memory(&routed);
 }

@@ -163,7 +163,7 @@ pub past : (m : RegionMap) (n x : ℕ) → region m n .size ≤ x → walk m n x
 unfolding walk visit
 past m n x l = rw (le-leb _ _ l)
 
-child-at : (m : RegionMap) (n k : ℕ) → ranked m n k ≡ true → (x : ℕ) → region m (k % 32) .offset ≤ x → answer m (walkBelow m n) n k x ≡ walk m (k % 32) (x - region m (k % 32) .offset)
+pub child-at : (m : RegionMap) (n k : ℕ) → ranked m n k ≡ true → (x : ℕ) → region m (k % 32) .offset ≤ x → answer m (walkBelow m n) n k x ≡ walk m (k % 32) (x - region m (k % 32) .offset)
 unfolding answer asked holds
 child-at m n k e x h = rw (e, le-leb _ _ h) (go (ltb x (region m (k % 32) .offset + region m (k % 32) .size)) refl)
   where
@@ -171,7 +171,7 @@ child-at m n k e x h = rw (e, le-leb _ _ h) (go (ltb x (region m (k % 32) .offse
     go true t = walk-below m n (k % 32) _ (child-below m n k e)
     go false t = sym (past m (k % 32) _ (omega (arith, ltb-false x (region m (k % 32) .offset + region m (k % 32) .size) t)))
 
-child-before : (m : RegionMap) (n k : ℕ) → ranked m n k ≡ true → (x : ℕ) → x < region m (k % 32) .offset → answer m (walkBelow m n) n k x ≡ Nothing
+pub child-before : (m : RegionMap) (n k : ℕ) → ranked m n k ≡ true → (x : ℕ) → x < region m (k % 32) .offset → answer m (walkBelow m n) n k x ≡ Nothing
 unfolding answer asked holds
 child-before m n k e x h = rw (e, lt-leb _ _ h)
 

@@ -8,5 +8,6 @@ pub mod Walk
 pub mod Span
 pub mod Resolve
 pub mod FlatList
+pub mod Pieces
 pub mod Flatten
 pub mod ViewRules

@@ -1,19 +1,25 @@
-// Making the flat view: a sweep over the addresses that jumps from span to span of the walk.
+// Making the flat view: the tree is rendered into a table of pieces, and the pieces are put into the view in
+// the order of their addresses.
 ghost use mathlib.Core.Path.{_≡_};
 ghost use Prim.Native.Nat.{_≤_, _<_};
-ghost use Rattle.region_map.specs.FlatList.{joins, push, extend as extendList};
+ghost use Rattle.region_map.specs.FlatList.{joins, push, extend as extendList, flat};
 ghost use Rattle.region_map.specs.Flatten.{backingOf, flatList, entries, Grew, Blank};
 ghost use Rattle.region_map.specs.Span.{Walkable, Indexed};
+ghost use Rattle.region_map.specs.Walk.{walkRoot};
+ghost use Rattle.region_map.specs.Pieces.{startOf, horizonOf, Pieces, Whole};
 use crate::map::GuestAddress;
 use crate::map::MMIO;
 use crate::map::RegionMap;
+use crate::map::RegionOffset;
+use crate::pieces::begin;
+use crate::pieces::piece_at;
+use crate::render::render;
 use crate::resolve::Resolved;
 use crate::resolve::root_offset;
 use crate::view::FlatRange;
 use crate::view::FlatView;
 use crate::view::empty_view;
 use crate::walk::least;
-use crate::walk::walk;
 
 // What a range carries of its region: the kind, and the memory start or port.
 pub struct Backing {
@@ -143,6 +149,32 @@ fn extend(
     }
 }
 
+// The view with the pieces of a table, which is whole from where the view ends up to its horizon.
+fn emit(map: RegionMap, start: FlatView, table: &[u64]) -> Pushed
+    requires { ⌜ start .count ≤ 256 ⌝ }
+    requires { ⌜ Pieces (now table) ⌝ }
+    requires { ⌜ entries start ≡ flat (backingOf map) (walkRoot map) (startOf (now table)) ⌝ }
+    requires { ⌜ Whole (walkRoot map) (now table) ⌝ }
+    ensures grown { λ p. ⌜ Grew (flat (backingOf map) (walkRoot map) (horizonOf (now (table .entry)))) p ⌝ }
+    ensures blank { λ p. ⌜ (Blank start → Blank (p .view)) ⌝ }
+{
+    let count = table[0] as usize;
+    let mut view = start;
+    let mut i: usize = 0;
+    while i < count {
+        let p = piece_at(table, i);
+        let last = least(p.end, table[1]) - 1;
+        let answer = Resolved::At(p.region, RegionOffset(p.offset));
+        let grown = extend(map, view, GuestAddress(p.first), GuestAddress(last), answer);
+        if grown.full {
+            return grown;
+        }
+        view = grown.view;
+        i += 1;
+    }
+    Pushed { full: false, view }
+}
+
 // The ranges of all addresses of the root, or full where there are more than 256.
 pub fn sweep(map: RegionMap) -> Pushed
     requires { ⌜ Walkable map × (0 < map .count) ⌝ }
@@ -151,19 +183,20 @@ pub fn sweep(map: RegionMap) -> Pushed
 {
     let root = map.count - 1;
     let size = map.regions[root].size;
+    let mut table = [0u64; 1027];
     let mut view = empty_view();
     let mut at: u64 = 0;
     while at < size {
-        let seen = walk(map, root, root_offset(GuestAddress(at)));
-        let span = least(seen.span, size - at);
-        let answer = seen.answer;
-        let last = at + (span - 1);
-        let grown = extend(map, view, GuestAddress(at), GuestAddress(last), answer);
+        let here = GuestAddress(at);
+        let end = GuestAddress(size);
+        begin(&mut table, here, end);
+        render(map, &mut table, root, here, root_offset(here), end);
+        let grown = emit(map, view, &table);
         if grown.full {
             return grown;
         }
         view = grown.view;
-        at += span;
+        at = table[1];
     }
     Pushed { full: false, view }
 }

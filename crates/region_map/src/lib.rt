@@ -6,6 +6,8 @@ mod clash;
 mod fault;
 mod flat;
 pub mod map;
+mod pieces;
+mod render;
 pub mod resolve;
 mod search;
 pub mod view;

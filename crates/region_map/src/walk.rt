@@ -23,7 +23,7 @@ const ENDLESS: u64 = 0xffff_ffff_ffff_ffff;
 const RANKS: usize = 8192;
 
 pub fn least(a: u64, b: u64) -> u64
-    ensures { λ r. ⌜ (r ≤ a) × (r ≤ b) × (0 < a → 0 < b → 0 < r) ⌝ }
+    ensures { λ r. ⌜ (r ≤ a) × (r ≤ b) × (0 < a → 0 < b → 0 < r) × (r < a → b ≤ r) ⌝ }
 {
     if a < b { a } else { b }
 }

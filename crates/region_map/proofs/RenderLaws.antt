@@ -1,0 +1,354 @@
+-- Laws of the table of pieces: a window, what is put behind a table, what the tree puts there, and the flat list that the pieces give. Assumes nothing.
+use mathlib.Core.Path.{_≡_, refl, sym, ap, subst, _∙_}
+use mathlib.Core.Bool.{Bool, true, false, _&&_, _||_, cond}
+use mathlib.Core.List.{List}
+use mathlib.Core.Logic.{_⊎_, inl, inr, ⊎-elim}
+use Prim.Native.Nat.{ℕ, zero, suc, _+_, _-_, _%_, _≤_, _<_}
+use native.Mathlib.Nat.{add-zero, add-suc, not-suc-le-zero}
+use native.Mathlib.Decide.{ℕ-discrete, decLt}
+use native.Mathlib.Omega.{arith}
+use borrow.Author.Tests.{eq-eqb, ne-eqb, le-leb, lt-leb, leb-true, leb-false, ltb-true, ltb-false, lt-ltb, le-ltb}
+use lib.Dec.{leb, ltb}
+use lib.ListN.{length}
+use Rattle.region_map.specs.Map.{region}
+use Rattle.region_map.specs.Walk.{ranked, orElse, own, answer, tried, walkBelow, walk, walkRoot}
+use Rattle.region_map.specs.Span.{shift, Walkable, NextChild}
+use Rattle.region_map.specs.FlatList.{extend, flat}
+use Rattle.region_map.specs.Flatten.{Grew}
+use Rattle.region_map.specs.Pieces.{countOf, horizonOf, startOf, firstOf, endOf, regionOf, offsetOf, window, itself, pieceGives, given, shown, Pieces, Behind, Whole}
+use Rattle.region_map.specs.declared.map.RegionMap.{RegionMap}
+use Rattle.region_map.specs.declared.resolve.Resolved.{Resolved}
+use Rattle.region_map.specs.declared.resolve.Resolved.the-variants.{Nothing, At}
+use Rattle.region_map.specs.declared.flat.Backing.{Backing}
+use Rattle.region_map.specs.declared.flat.Pushed.{Pushed}
+use Rattle.region_map.specs.declared.view.FlatRange.{FlatRange}
+use Rattle.region_map.proofs.WalkLaws.{tried-skip, tried-suc, past, child-at, child-before, walk-alias, walk-inside}
+use Rattle.region_map.proofs.WindowLaws.{window-in, window-before, window-past}
+use Rattle.region_map.proofs.Bools.{or-left, or-right}
+use Rattle.region_map.proofs.ViewLaws.{turned}
+
+-- The first that answers.
+
+orElse-nothing : (x : Resolved) → x ≡ orElse x Nothing
+orElse-nothing Nothing = refl
+orElse-nothing (At n o) = refl
+
+orElse-assoc : (x y z : Resolved) → orElse (orElse x y) z ≡ orElse x (orElse y z)
+orElse-assoc Nothing y z = refl
+orElse-assoc (At n o) y z = refl
+
+-- A window.
+
+module _ (f : ℕ → Resolved) (first offset end a : ℕ) where
+  -- by cases
+  window-is : (x : Resolved) → (first ≤ a → a < end → f (offset + (a - first)) ≡ x) → (a < first → Nothing ≡ x) → (end ≤ a → Nothing ≡ x) → window f first offset end a ≡ x
+  window-is x inner low high = go (leb first a) (ltb a end) refl refl
+    where
+      go : (b t : Bool) → leb first a ≡ b → ltb a end ≡ t → window f first offset end a ≡ x
+      go true true p q = window-in f first offset end a (leb-true first a p) (ltb-true a end q) ∙ inner (leb-true first a p) (ltb-true a end q)
+      go true false p q = window-past f first offset end a (ltb-false a end q) ∙ high (ltb-false a end q)
+      go false t p q = window-before f first offset end a (leb-false first a p) ∙ low (leb-false first a p)
+
+window-ext : (f g : ℕ → Resolved) → ((x : ℕ) → f x ≡ g x) → (first offset end a : ℕ) → window f first offset end a ≡ window g first offset end a
+window-ext f g e first offset end a = window-is f first offset end a _
+    (λ h k. e _ ∙ sym (window-in g first offset end a h k)) (λ h. sym (window-before g first offset end a h)) (λ h. sym (window-past g first offset end a h))
+
+window-nothing : (f : ℕ → Resolved) → ((x : ℕ) → f x ≡ Nothing) → (first offset end a : ℕ) → window f first offset end a ≡ Nothing
+window-nothing f e first offset end a = window-is f first offset end a _ (λ h k. e _) (λ h. refl) (λ h. refl)
+
+window-orElse : (f g : ℕ → Resolved) (first offset end a : ℕ) → window (λ x. orElse (f x) (g x)) first offset end a ≡ orElse (window f first offset end a) (window g first offset end a)
+window-orElse f g first offset end a = window-is (λ x. orElse (f x) (g x)) first offset end a _
+    (λ h k. rw (window-in f first offset end a h k, window-in g first offset end a h k))
+    (λ h. rw (window-before f first offset end a h, window-before g first offset end a h))
+    (λ h. rw (window-past f first offset end a h, window-past g first offset end a h))
+
+-- f is g, k further on, below its size, and nothing past it
+window-clip : (f g : ℕ → Resolved) (size k : ℕ) → ((x : ℕ) → x < size → f x ≡ g (x + k)) → ((x : ℕ) → size ≤ x → f x ≡ Nothing)
+    → (first offset end r : ℕ) → first ≤ end → offset ≤ size → r ≤ end - first → r ≤ size - offset → (r < end - first → size - offset ≤ r)
+    → (a : ℕ) → window f first offset end a ≡ window g first (offset + k) (first + r) a
+window-clip f g size k e none first offset end r o s l m n a = window-is f first offset end a _ inner
+    (λ h. sym (window-before g first (offset + k) (first + r) a h)) (λ h. sym (window-past g first (offset + k) (first + r) a (omega arith)))
+  where
+    inner : first ≤ a → a < end → f (offset + (a - first)) ≡ window g first (offset + k) (first + r) a
+    inner h t = go (decLt a (first + r))
+      where
+        go : Dec (a < first + r) → f (offset + (a - first)) ≡ window g first (offset + k) (first + r) a
+        go (yes q) =
+            let p : offset + (a - first) + k ≡ offset + k + (a - first) = omega arith in
+            e (offset + (a - first)) (omega arith) ∙ ap g p ∙ sym (window-in g first (offset + k) (first + r) a h q)
+        go (no q) =
+            let z : size - offset ≤ r = n (omega arith) in
+            none (offset + (a - first)) (omega arith) ∙ sym (window-past g first (offset + k) (first + r) a (omega arith))
+
+-- What is put behind a table.
+
+pub behind-ext : {w v : List ℕ} {f g : ℕ → Resolved} → ((a : ℕ) → f a ≡ g a) → Behind w g v → Behind w f v
+behind-ext {w} e b = record {
+  kept = b .kept;
+  start = b .start;
+  within = b .within;
+  gives = λ a h. b .gives a h ∙ ap (orElse (shown w a)) (sym (e a));
+}
+
+pub behind-at : {w v u : List ℕ} {f : ℕ → Resolved} → u ≡ v → Behind w f v → Behind w f u
+behind-at {w} {f = f} e b = subst (λ (x : List ℕ). Behind w f x) (sym e) b
+
+pub behind-none : (w : List ℕ) (f : ℕ → Resolved) → Pieces w → ((a : ℕ) → a < horizonOf w → f a ≡ Nothing) → Behind w f w
+behind-none w f k e = record {
+  kept = k;
+  start = refl;
+  within = omega arith;
+  gives = λ a h. orElse-nothing (shown w a) ∙ ap (orElse (shown w a)) (sym (e a h));
+}
+
+pub behind-then : {w v u : List ℕ} {f g : ℕ → Resolved} → Behind w f v → Behind v g u → Behind w (λ a. orElse (f a) (g a)) u
+behind-then {w} {f = f} {g} b d = record {
+  kept = d .kept;
+  start = d .start ∙ b .start;
+  within = omega (arith, d .within, b .within);
+  gives = λ a h. d .gives a h ∙ ap (λ (x : Resolved). orElse x (g a)) (b .gives a (omega (arith, d .within))) ∙ orElse-assoc (shown w a) (f a) (g a);
+}
+
+pub behind-size : {w v : List ℕ} {f : ℕ → Resolved} → Pieces w → Behind w f v → length v ≡ length w
+behind-size k b = b .kept .size ∙ sym (k .size)
+
+-- What the tree puts there.
+
+pub nothing-there : (m : RegionMap) (n : ℕ) (w : List ℕ) (first offset end : ℕ) → Pieces w → (leb end first || leb (region m n .size) offset) ≡ true → Behind w (window (walk m n) first offset end) w
+nothing-there m n w first offset end k e = behind-none w _ k (λ a h. window-is (walk m n) first offset end a Nothing (λ p q. go a p q (leb end first) refl e) (λ _. refl) (λ _. refl))
+  where
+    go : (a : ℕ) → first ≤ a → a < end → (b : Bool) → leb end first ≡ b → (b || leb (region m n .size) offset) ≡ true → walk m n (offset + (a - first)) ≡ Nothing
+    go a p q true t d = absurd (omega (arith, leb-true end first t))
+    go a p q false t d = past m n (offset + (a - first)) (omega (arith, leb-true (region m n .size) offset d))
+
+pub some-there : (m : RegionMap) (n first offset end : ℕ) → (leb end first || leb (region m n .size) offset) ≡ false → (first < end) × (offset < region m n .size)
+some-there m n first offset end e = (leb-false end first (or-left _ _ e), leb-false (region m n .size) offset (or-right (leb end first) _ e))
+
+pub not-reached : (f : ℕ → Resolved) (w : List ℕ) (first offset end : ℕ) → Pieces w → horizonOf w ≤ first → Behind w (window f first offset end) w
+not-reached f w first offset end k h = behind-none w _ k (λ a l. window-before f first offset end a (omega arith))
+
+module _ (m : RegionMap) (n : ℕ) {w v : List ℕ} (first offset end r : ℕ) (some : first < end) (inside : offset < region m n .size)
+    (one : r ≤ end - first) (two : r ≤ region m n .size - offset) (less : r < end - first → region m n .size - offset ≤ r) where
+  pub through-alias : Walkable m → n < m .count → region m n .kind ≡ 3 → Behind w (window (walk m (region m n .target)) first (offset + region m n .«alias_offset») (first + r)) v
+      → Behind w (window (walk m n) first offset end) v
+  through-alias s i e b = behind-ext (window-clip (walk m n) (walk m (region m n .target)) (region m n .size) (region m n .«alias_offset»)
+      (walk-alias m s n i e) (past m n) first offset end r (omega arith) (omega arith) one two less) b
+
+  pub through-children : (region m n .kind ≡ 3 → ⊥) → Behind w (window (tried m (walkBelow m n) n 8192) first offset (first + r)) v
+      → Behind w (window (walk m n) first offset end) v
+  through-children e b =
+      let z : offset + 0 ≡ offset = add-zero offset in
+      behind-ext (λ a. window-clip (walk m n) (tried m (walkBelow m n) n 8192) (region m n .size) 0
+      (λ x h. walk-inside m n e x h ∙ ap (tried m (walkBelow m n) n 8192) (sym (add-zero x))) (past m n) first offset end r (omega arith) (omega arith) one two less a
+      ∙ ap (λ (o : ℕ). window (tried m (walkBelow m n) n 8192) first o (first + r) a) z) b
+
+-- The children of n, and n itself.
+
+tried-none : (m : RegionMap) (u : ℕ → ℕ → Resolved) (n b r : ℕ) → NextChild m n b r → r ≡ 0 → (x : ℕ) → tried m u n b x ≡ own m n x
+unfolding tried
+tried-none m u n b r h e x = tried-skip m u n b r (h .within) (h .above) x ∙ ap (λ (j : ℕ). tried m u n j x) e
+
+tried-next : (m : RegionMap) (u : ℕ → ℕ → Resolved) (n b r : ℕ) → NextChild m n b r → (r ≡ 0 → ⊥) → (x : ℕ) → tried m u n b x ≡ orElse (answer m u n (r - 1) x) (tried m u n (r - 1) x)
+tried-next m u n b r h ne x =
+    let e : r ≡ (r - 1) + 1 = omega arith in
+    tried-skip m u n b r (h .within) (h .above) x ∙ ap (λ (j : ℕ). tried m u n j x) e ∙ tried-suc m u n (r - 1) x
+
+own-is : (m : RegionMap) (n : ℕ) → (region m n .kind ≡ 0 → ⊥) → (x : ℕ) → own m n x ≡ itself n x
+unfolding own
+own-is m n e x = rw (ne-eqb _ _ e)
+
+own-none : (m : RegionMap) (n : ℕ) → region m n .kind ≡ 0 → (x : ℕ) → own m n x ≡ Nothing
+unfolding own
+own-none m n e x = rw (eq-eqb _ _ e)
+
+module _ (m : RegionMap) (n b r first offset end : ℕ) (next : NextChild m n b r) where
+  pub the-node : {w v : List ℕ} → r ≡ 0 → (region m n .kind ≡ 0 → ⊥) → Behind w (window (itself n) first offset end) v
+      → Behind w (window (tried m (walkBelow m n) n b) first offset end) v
+  the-node e k d = behind-ext (window-ext (tried m (walkBelow m n) n b) (itself n) (λ x. tried-none m _ n b r next e x ∙ own-is m n k x) first offset end) d
+
+  pub no-node : (w : List ℕ) → Pieces w → r ≡ 0 → region m n .kind ≡ 0 → Behind w (window (tried m (walkBelow m n) n b) first offset end) w
+  no-node w p e k = behind-none w _ p (λ a h. window-nothing (tried m (walkBelow m n) n b) (λ x. tried-none m _ n b r next e x ∙ own-none m n k x) first offset end a)
+
+  pub child-then : {w v u : List ℕ} → (r ≡ 0 → ⊥) → Behind w (window (answer m (walkBelow m n) n (r - 1)) first offset end) v → Behind v (window (tried m (walkBelow m n) n (r - 1)) first offset end) u
+      → Behind w (window (tried m (walkBelow m n) n b) first offset end) u
+  child-then ne d g = behind-ext (λ a. window-ext (tried m (walkBelow m n) n b) _ (tried-next m (walkBelow m n) n b r next ne) first offset end a
+      ∙ window-orElse (answer m (walkBelow m n) n (r - 1)) (tried m (walkBelow m n) n (r - 1)) first offset end a) (behind-then d g)
+
+-- A child, which begins at or before the window, inside it, or not before its end.
+module _ (m : RegionMap) (n k first offset end : ℕ) (child : ranked m n k ≡ true) where
+  pub child-begun : {w v : List ℕ} → region m (k % 32) .offset ≤ offset → Behind w (window (walk m (k % 32)) first (offset - region m (k % 32) .offset) end) v
+      → Behind w (window (answer m (walkBelow m n) n k) first offset end) v
+  child-begun h d = behind-ext same d
+    where
+      same : (a : ℕ) → window (answer m (walkBelow m n) n k) first offset end a ≡ window (walk m (k % 32)) first (offset - region m (k % 32) .offset) end a
+      same a = window-is (answer m (walkBelow m n) n k) first offset end a _
+          (λ p q.
+          let z : offset + (a - first) - region m (k % 32) .offset ≡ offset - region m (k % 32) .offset + (a - first) = omega arith in
+          child-at m n k child (offset + (a - first)) (omega arith) ∙ ap (walk m (k % 32)) z ∙ sym (window-in (walk m (k % 32)) first (offset - region m (k % 32) .offset) end a p q))
+          (λ p. sym (window-before (walk m (k % 32)) first (offset - region m (k % 32) .offset) end a p))
+          (λ p. sym (window-past (walk m (k % 32)) first (offset - region m (k % 32) .offset) end a p))
+
+  pub child-ahead : {w v : List ℕ} → offset < region m (k % 32) .offset → Behind w (window (walk m (k % 32)) (first + (region m (k % 32) .offset - offset)) 0 end) v
+      → Behind w (window (answer m (walkBelow m n) n k) first offset end) v
+  child-ahead h d = behind-ext same d
+    where
+      same : (a : ℕ) → window (answer m (walkBelow m n) n k) first offset end a ≡ window (walk m (k % 32)) (first + (region m (k % 32) .offset - offset)) 0 end a
+      same a = window-is (answer m (walkBelow m n) n k) first offset end a _ (λ p q. inner p q (decLt a (first + (region m (k % 32) .offset - offset))))
+          (λ p. sym (window-before (walk m (k % 32)) (first + (region m (k % 32) .offset - offset)) 0 end a (omega arith)))
+          (λ p. sym (window-past (walk m (k % 32)) (first + (region m (k % 32) .offset - offset)) 0 end a p))
+        where
+          inner : first ≤ a → a < end → Dec (a < first + (region m (k % 32) .offset - offset)) → answer m (walkBelow m n) n k (offset + (a - first)) ≡ window (walk m (k % 32)) (first + (region m (k % 32) .offset - offset)) 0 end a
+          inner p q (yes l) = child-before m n k child (offset + (a - first)) (omega arith) ∙ sym (window-before (walk m (k % 32)) (first + (region m (k % 32) .offset - offset)) 0 end a l)
+          inner p q (no l) =
+              let z : offset + (a - first) - region m (k % 32) .offset ≡ 0 + (a - (first + (region m (k % 32) .offset - offset))) = omega arith in
+              child-at m n k child (offset + (a - first)) (omega arith) ∙ ap (walk m (k % 32)) z ∙ sym (window-in (walk m (k % 32)) (first + (region m (k % 32) .offset - offset)) 0 end a (omega arith) q)
+
+  pub child-beyond : (w : List ℕ) → Pieces w → offset < region m (k % 32) .offset → end - first ≤ region m (k % 32) .offset - offset
+      → Behind w (window (answer m (walkBelow m n) n k) first offset end) w
+  child-beyond w s h l = behind-none w _ s (λ a i. window-is (answer m (walkBelow m n) n k) first offset end a Nothing
+      (λ p q. child-before m n k child (offset + (a - first)) (omega arith)) (λ p. refl) (λ p. refl))
+
+-- What the pieces give an address: nothing between them, and inside one the piece.
+
+given-none : (w : List ℕ) (k a : ℕ) → ((j : ℕ) → j < k → (endOf w j ≤ a) ⊎ (a < firstOf w j)) → given w k a ≡ Nothing
+unfolding given
+given-none w zero a h = refl
+given-none w (suc k) a h =
+    let piece : pieceGives w k a ≡ Nothing = ⊎-elim
+    (λ l. window-past (itself (regionOf w k)) (firstOf w k) (offsetOf w k) (endOf w k) a l)
+    (λ l. window-before (itself (regionOf w k)) (firstOf w k) (offsetOf w k) (endOf w k) a l)
+    (h k (omega arith)) in
+    rw (given-none w k a (λ j l. h j (omega arith))) piece
+
+given-at : (w : List ℕ) (i k a : ℕ) → i < k → ((j : ℕ) → j < i → endOf w j ≤ a) → firstOf w i ≤ a → a < endOf w i
+    → given w k a ≡ itself (regionOf w i) (offsetOf w i + (a - firstOf w i))
+unfolding given
+given-at w i zero a l before h t = absurd (not-suc-le-zero l)
+given-at w i (suc k) a l before h t = go (ℕ-discrete i k) (λ p. given-at w i k a p before h t)
+  where
+    go : Dec (i ≡ k) → (i < k → given w k a ≡ itself (regionOf w i) (offsetOf w i + (a - firstOf w i)))
+        → orElse (given w k a) (pieceGives w k a) ≡ itself (regionOf w i) (offsetOf w i + (a - firstOf w i))
+    go (yes e) ih = rw (← e, given-none w i a (λ j p. inl (before j p))) (window-in (itself (regionOf w i)) (firstOf w i) (offsetOf w i) (endOf w i) a h t)
+    go (no e) ih = rw (ih (omega arith))
+
+-- The flat list does not grow where nothing answers.
+
+flat-over : (backing : ℕ → Backing) (f : ℕ → Resolved) (at s : ℕ) → ((a : ℕ) → at ≤ a → a < at + s → f a ≡ Nothing) → flat backing f (at + s) ≡ flat backing f at
+unfolding flat extend
+flat-over backing f at zero h = rw add-zero
+flat-over backing f at (suc s) h = rw (add-suc, h (at + s) (omega arith) (omega arith)) (flat-over backing f at s (λ a l k. h a l (omega arith)))
+
+flat-same : (backing : ℕ → Backing) (f : ℕ → Resolved) (at to : ℕ) → at ≤ to → ((a : ℕ) → at ≤ a → a < to → f a ≡ Nothing) → flat backing f to ≡ flat backing f at
+flat-same backing f at to l h =
+    let e : at + (to - at) ≡ to = omega arith in
+    subst (λ (x : ℕ). flat backing f x ≡ flat backing f at) e (flat-over backing f at (to - at) (λ a p q. h a p (omega arith)))
+
+-- The first i pieces are in a list: it is the list of the addresses below `at`, past those pieces and not past the others.
+pub record Emitted (backing : ℕ → Backing) (f : ℕ → Resolved) (w : List ℕ) (i : ℕ) (l : List FlatRange) : Type 0 where
+  pub at : ℕ
+  pub low : startOf w ≤ at
+  pub high : at ≤ horizonOf w
+  pub passed : (j : ℕ) → j < i → at < horizonOf w → endOf w j ≤ at
+  pub left : (j : ℕ) → i ≤ j → j < countOf w → at ≤ firstOf w j
+  pub list : l ≡ flat backing f at
+
+module _ (backing : ℕ → Backing) (f : ℕ → Resolved) (w : List ℕ) (good : Pieces w) where
+  pub none-emitted : (l : List FlatRange) → l ≡ flat backing f (startOf w) → Emitted backing f w 0 l
+  none-emitted l e = record {
+    at = startOf w;
+    low = omega arith;
+    high = omega (arith, good .ahead);
+    passed = λ j h. absurd (not-suc-le-zero h);
+    left = λ j h k. good .from j k;
+    list = e;
+  }
+
+  module _ (whole : Whole f w) where
+    pub all-emitted : (i : ℕ) (l : List FlatRange) → countOf w ≤ i → Emitted backing f w i l → l ≡ flat backing f (horizonOf w)
+    all-emitted i l h e = e .list ∙ sym (flat-same backing f (e .at) (horizonOf w) (e .high) (λ a p q.
+        sym (whole .gives a (omega (arith, e .low)) q)
+        ∙ given-none w (countOf w) a (λ j k. inl (omega (arith, e .passed j (omega arith) (omega arith))))))
+
+    module _ (i : ℕ) (l : List FlatRange) (some : i < countOf w) (e : Emitted backing f w i l) (stop : ℕ)
+        (one : stop ≤ endOf w i) (two : stop ≤ horizonOf w) (less : stop < endOf w i → horizonOf w ≤ stop) where
+      more : firstOf w i < stop
+      more = go (decLt (firstOf w i) stop)
+        where
+          go : Dec (firstOf w i < stop) → firstOf w i < stop
+          go (yes h) = h
+          go (no h) = absurd (omega (arith, less (omega (arith, good .order i some)), good .near i some))
+
+      -- up to the piece
+      piece-list : l ≡ flat backing f (firstOf w i)
+      piece-list = e .list ∙ sym (flat-same backing f (e .at) (firstOf w i) (e .left i (omega arith) some) (λ a p q.
+          sym (whole .gives a (omega (arith, e .low)) (omega (arith, good .near i some)))
+          ∙ given-none w (countOf w) a (λ j k. go a p q j k (decLt j i))))
+        where
+          go : (a : ℕ) → e .at ≤ a → a < firstOf w i → (j : ℕ) → j < countOf w → Dec (j < i) → (endOf w j ≤ a) ⊎ (a < firstOf w j)
+          go a p q j k (yes h) = inl (omega (arith, e .passed j h (omega (arith, good .near i some))))
+          go a p q j k (no h) = inr (later (ℕ-discrete i j))
+            where
+              later : Dec (i ≡ j) → a < firstOf w j
+              later (yes z) = omega (arith, ap (firstOf w) z)
+              later (no z) = omega (arith, good .apart i j (omega arith) k, good .order i some)
+
+      piece-at : (a : ℕ) → firstOf w i ≤ a → a < stop → f a ≡ itself (regionOf w i) (offsetOf w i + (a - firstOf w i))
+      piece-at a p q = sym (whole .gives a (omega (arith, good .from i some)) (omega arith))
+          ∙ given-at w i (countOf w) a some (λ j h. omega (arith, good .apart j i h some)) p (omega arith)
+
+      piece-first : itself (regionOf w i) (offsetOf w i) ≡ f (firstOf w i)
+      piece-first =
+          let z : offsetOf w i + (firstOf w i - firstOf w i) ≡ offsetOf w i = omega arith in
+          sym (piece-at (firstOf w i) (omega arith) more ∙ ap (itself (regionOf w i)) z)
+
+      piece-run : (d : ℕ) → d < stop - firstOf w i → f (firstOf w i + d) ≡ shift d (f (firstOf w i))
+      piece-run d h =
+          let z : offsetOf w i + (firstOf w i + d - firstOf w i) ≡ offsetOf w i + d = omega arith in
+          piece-at (firstOf w i + d) (omega arith) (omega arith) ∙ ap (itself (regionOf w i)) z ∙ ap (shift d) piece-first
+
+      -- and the piece
+      grew-there : (p : Pushed) → Grew (extend backing l (firstOf w i) (stop - 1) (itself (regionOf w i) (offsetOf w i))) p → Grew (flat backing f stop) p
+      grew-there p g =
+          let more′ : firstOf w i < stop = more in
+          let last : stop - 1 ≡ firstOf w i + (stop - firstOf w i - 1) = omega arith in
+          let z : firstOf w i + (stop - firstOf w i) ≡ stop = omega arith in
+          subst (λ (x : ℕ). Grew (flat backing f x) p) z
+          (turned backing f (firstOf w i) (stop - firstOf w i) l (itself (regionOf w i) (offsetOf w i)) p piece-list piece-first (omega arith) piece-run
+          (subst (λ (x : ℕ). Grew (extend backing l (firstOf w i) x (itself (regionOf w i) (offsetOf w i))) p) last g))
+
+      pub piece-grew : (p : Pushed) (first region offset : ℕ) → first ≡ firstOf w i → region ≡ regionOf w i → offset ≡ offsetOf w i
+          → Grew (extend backing l first (stop - 1) (itself region offset)) p → Grew (flat backing f stop) p
+      piece-grew p first region offset a b c g = grew-there p (subst (λ (x : ℕ). Grew (extend backing l x (stop - 1) (itself (regionOf w i) (offsetOf w i))) p) a
+          (subst (λ (x : ℕ). Grew (extend backing l first (stop - 1) (itself x (offsetOf w i))) p) b
+          (subst (λ (x : ℕ). Grew (extend backing l first (stop - 1) (itself region x)) p) c g)))
+
+      pub one-emitted : (k : List FlatRange) → k ≡ flat backing f stop → Emitted backing f w (i + 1) k
+      one-emitted k q = record {
+        at = stop;
+        low = omega (arith, good .from i some, more);
+        high = two;
+        passed = λ j h t. go j h t (ℕ-discrete j i);
+        left = λ j h t. omega (arith, good .apart i j (omega arith) t);
+        list = q;
+      }
+        where
+          go : (j : ℕ) → j < i + 1 → stop < horizonOf w → Dec (j ≡ i) → endOf w j ≤ stop
+          go j h t (yes z) = go-end (decLt stop (endOf w i))
+            where
+              go-end : Dec (stop < endOf w i) → endOf w j ≤ stop
+              go-end (yes b) = absurd (omega (arith, less b))
+              go-end (no b) = omega (arith, ap (endOf w) z)
+          go j h t (no z) = omega (arith, good .apart j i (omega arith) some, more)
+
+-- The table of a sweep's turn.
+
+pub whole-root : (m : RegionMap) (w v : List ℕ) (at offset end : ℕ) → countOf w ≡ 0 → startOf w ≡ at → horizonOf w ≡ end → offset ≡ at
+    → Behind w (window (walk m (m .count - 1)) at offset end) v → Whole (walkRoot m) v
+unfolding walkRoot given
+whole-root m w v at offset end none start horizon same b = record {
+  gives = λ a h k.
+      let z : offset + (a - at) ≡ a = omega (arith, b .start) in
+      let empty : shown w a ≡ Nothing = ap (λ (n : ℕ). given w n a) none in
+      b .gives a k ∙ ap (λ (x : Resolved). orElse x (window (walk m (m .count - 1)) at offset end a)) empty
+      ∙ window-in (walk m (m .count - 1)) at offset end a (omega (arith, b .start)) (omega (arith, b .within)) ∙ ap (walk m (m .count - 1)) z;
+}

@@ -1,0 +1,35 @@
+-- `region_map::pieces::free_until` meets its contract: the addresses are free up to the nearer of the next piece and the end. Assumes nothing.
+use borrow.Author.Needs.{needs}
+use native.Mathlib.Omega.{arith}
+use Rattle.region_map.proofs.FillLaws.{free-least}
+use Rattle.region_map.proofs.pieces.free_until.Statement.{statement}
+use Rattle.region_map.proofs.pieces.free_until.Tie as tie
+
+shared-slice-read-if1 : tie.Need-shared-slice-read-if1
+shared-slice-read-if1 c = search needs
+
+piece-at-requires : tie.Need-piece-at-requires
+piece-at-requires c κs = search needs
+
+returns : tie.Need-returns
+returns c = search needs
+
+least-requires : tie.Need-least-requires
+least-requires c κs = search needs
+
+returns-2 : tie.Need-returns-2
+returns-2 c =
+    let s = c .before .before .before .before .before .before .before in
+    let e = c .before .before .before .piece-at .ensures .0 in
+    let l = c .least .ensures in
+    free-least (s .args .table .now) (s .args .i) (s .args .a) (s .args .end) (c .least .result)
+    (c .before .before .before .before .if1 .taken) (omega (arith, c .before .if2 .left, e)) (s .pre .1 .1) (omega (arith, l .0, e)) (l .1)
+    (λ h. l .3 (omega (arith, e)))
+
+returns-3 : tie.Need-returns-3
+returns-3 c = search needs
+
+pub free-until-spec : {M : Type 1} → statement M
+free-until-spec =
+    tie.close
+    (tie.spec shared-slice-read-if1 piece-at-requires returns least-requires returns-2 returns-3)

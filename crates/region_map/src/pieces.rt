@@ -1,0 +1,166 @@
+// The table of pieces that the flat view is made from. A piece is a stretch of addresses that lead to one
+// region. The table is filled from the highest priority down, so that a piece takes only what is free.
+// Where it is full, what lies furthest gives way and the horizon comes nearer: below it the table is whole.
+ghost use mathlib.Core.Path.{_≡_};
+ghost use Prim.Native.Nat.{_+_, _*_, _^_, _≤_, _<_};
+ghost use lib.ListN.{length};
+ghost use lib.Seq.{sets};
+ghost use Rattle.region_map.specs.Pieces.{pieceWords, countOf, horizonOf, startOf, firstOf, endOf, regionOf, offsetOf, window, itself, Pieces, Behind, Spot, Moved, Fits, Free};
+use crate::map::GuestAddress;
+use crate::map::RegionOffset;
+use crate::walk::least;
+
+// A table's words: the count, the horizon, the start, and four for each piece.
+pub const WORDS: usize = 1027;
+
+const PIECES: u64 = 256;
+
+// The addresses from first up to end, which is not one of them, lead to a region from an offset on.
+pub struct Piece {
+    pub first: u64,
+    pub end: u64,
+    pub region: usize,
+    pub offset: u64,
+}
+
+// An empty table for the addresses from `start` up to `end`.
+pub fn begin(table: &mut [u64], start: GuestAddress, end: GuestAddress)
+    requires { ⌜ (length (now table) ≡ 1027) × (start .0 < end .0) × (end .0 ≤ 2 ^ 48) ⌝ }
+    ensures { λ _. ⌜ Pieces (now (table .exit)) × (countOf (now (table .exit)) ≡ 0) × (startOf (now (table .exit)) ≡ start .0) × (horizonOf (now (table .exit)) ≡ end .0) ⌝ }
+{
+    table[0] = 0;
+    table[1] = end.0;
+    table[2] = start.0;
+}
+
+pub fn piece_at(table: &[u64], i: usize) -> Piece
+    requires { ⌜ (length (now table) ≡ 1027) × (i < 256) ⌝ }
+    ensures { λ r. ⌜ (r .first ≡ firstOf (now (table .entry)) i) × (r .end ≡ endOf (now (table .entry)) i) × (r .region ≡ regionOf (now (table .entry)) i) × (r .offset ≡ offsetOf (now (table .entry)) i) ⌝ }
+{
+    let at = 3 + 4 * i;
+    Piece {
+        first: table[at],
+        end: table[at + 1],
+        region: table[at + 2] as usize,
+        offset: table[at + 3],
+    }
+}
+
+fn put_piece(table: &mut [u64], i: usize, piece: Piece)
+    requires { ⌜ (length (now table) ≡ 1027) × (i < 256) ⌝ }
+    ensures { λ _. ⌜ now (table .exit) ≡ sets (now (table .entry)) (3 + 4 * i) (pieceWords piece) ⌝ }
+{
+    let at = 3 + 4 * i;
+    table[at] = piece.first;
+    table[at + 1] = piece.end;
+    table[at + 2] = piece.region as u64;
+    table[at + 3] = piece.offset;
+}
+
+// Pieces i up to n move up by one.
+fn shift(table: &mut [u64], i: usize, n: usize)
+    requires { ⌜ (length (now table) ≡ 1027) × (i ≤ n) × (n ≤ 255) ⌝ }
+    ensures { λ _. ⌜ Moved (now (table .entry)) i n (now (table .exit)) ⌝ }
+{
+    let low = 3 + 4 * i;
+    let mut k = 3 + 4 * n;
+    while low < k {
+        k -= 1;
+        table[k + 4] = table[k];
+    }
+}
+
+// A piece put in at place i. In a full table the last one gives way: what lies from it on is not known.
+fn insert(table: &mut [u64], i: usize, piece: Piece)
+    requires { ⌜ Pieces (now table) ⌝ }
+    requires { ⌜ Fits (now table) i piece ⌝ }
+    ensures { λ _. ⌜ Behind (now (table .entry)) (window (itself (piece .region)) (piece .first) (piece .offset) (piece .end)) (now (table .exit)) × Spot (now (table .exit)) (piece .end) (i + 1) ⌝ }
+{
+    let count = table[0];
+    if count == PIECES {
+        table[1] = table[1023];
+        shift(table, i, 255);
+    } else {
+        shift(table, i, count as usize);
+        table[0] = count + 1;
+    }
+    put_piece(table, i, piece);
+}
+
+// The place of an address among the pieces, by halving.
+fn spot(table: &[u64], a: u64) -> usize
+    requires { ⌜ Pieces (now table) ⌝ }
+    ensures { λ r. ⌜ Spot (now (table .entry)) a r ⌝ }
+{
+    let mut low: usize = 0;
+    let mut high = table[0] as usize;
+    while low < high {
+        let middle = low + (high - low) / 2;
+        let p = piece_at(table, middle);
+        if p.end <= a {
+            low = middle + 1;
+        } else {
+            high = middle;
+        }
+    }
+    low
+}
+
+// How far from an address on nothing is taken, where i is the address's place.
+fn free_until(table: &[u64], i: usize, a: u64, end: u64) -> u64
+    requires { ⌜ Pieces (now table) ⌝ }
+    requires { ⌜ Spot (now table) a i × (a ≤ end) ⌝ }
+    ensures { λ r. ⌜ Free (now (table .entry)) i a end r ⌝ }
+{
+    if (i as u64) < table[0] {
+        let p = piece_at(table, i);
+        if p.first <= a {
+            return a;
+        }
+        return least(p.first, end);
+    }
+    end
+}
+
+// A region, from an offset on, at the addresses of a window that are free.
+pub fn fill(
+    table: &mut [u64],
+    region: usize,
+    first: GuestAddress,
+    offset: RegionOffset,
+    end: GuestAddress,
+)
+    requires { ⌜ Pieces (now table) ⌝ }
+    requires { ⌜ (region < 32) × (startOf (now table) ≤ first .0) × (end .0 ≤ 2 ^ 48) × (offset .0 ≤ 2 ^ 49) ⌝ }
+    ensures { λ _. ⌜ Behind (now (table .entry)) (window (itself region) (first .0) (offset .0) (end .0)) (now (table .exit)) ⌝ }
+{
+    let mut a = first.0;
+    let mut i = spot(table, a);
+    while a < end.0 {
+        if table[1] <= a {
+            return;
+        }
+        let stop = free_until(table, i, a, end.0);
+        if stop == a {
+            let p = piece_at(table, i);
+            a = p.end;
+        } else {
+            if i == 256 {
+                table[1] = a;
+                return;
+            }
+            insert(
+                table,
+                i,
+                Piece {
+                    first: a,
+                    end: stop,
+                    region: region,
+                    offset: offset.0 + (a - first.0),
+                },
+            );
+            a = stop;
+        }
+        i += 1;
+    }
+}
