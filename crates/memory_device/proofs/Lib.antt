@@ -7,3 +7,4 @@ pub mod Plugged
 pub mod RuleLaws
 mod SetUpLaws
 pub mod TableLaws
+mod WordLaws

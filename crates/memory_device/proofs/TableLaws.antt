@@ -1,20 +1,20 @@
 -- Laws of words by their bits and of tables by their blocks. Assumes nothing.
 use mathlib.Core.Path.{_≡_, refl, ap, _∙_, sym, subst}
-use mathlib.Core.Bool.{Bool, true, false, cond, not, _&&_, _||_, or-true, Bool·beq}
+use mathlib.Core.Bool.{Bool, true, false, cond, not, _&&_, _||_, or-true}
 use mathlib.Core.Logic.{_⊎_, inl, inr, ⊎-elim}
 use mathlib.Core.List.{List}
 use Prim.Native.Nat.{ℕ, suc, zero, _+_, _-_, _*_, _/_, _%_, _^_, _≤_, _<_}
-use native.Mathlib.Nat.{eq-zero-or-pos, eq-or-lt-of-le, zero-div, mod-eq-of-lt, mod-lt, mod-one, one-mul, zero-mul, pow-suc, add-mul-mod-self-right, div-self, div-eq-of-lt, mul-mod-left, add-zero, zero-add}
+use native.Mathlib.Nat.{eq-zero-or-pos, eq-or-lt-of-le, zero-div, mod-eq-of-lt, mod-lt, mod-one, one-mul, zero-mul, pow-suc, add-mul-mod-self-right, div-eq-of-lt, add-zero, zero-add}
 use native.Mathlib.Numerals.{add-one}
 use native.Mathlib.Omega.{arith}
-use lib.Dec.{leb, ltb, eqb, lit<}
-use lib.Pow.{pow-pos, pow-lt, pow-add, shl-shr, shl-exact, shr-shr, mod-pow-add, field, high}
-use lib.Bits.{bitAnd, bitXor, and-shr, and-mod, and-lt, xor-shr, xor-mod, xor-zero-r, xor-lt}
-use lib.ListN.{length, getD, set, replicate, length-set}
-use lib.Seq.{getD-set-same, getD-set-other, ext-getD}
-use borrow.Author.Tests.{lt-ltb, le-ltb, le-leb, lt-leb}
+use lib.Dec.{ltb, eqb, lit<}
+use lib.Pow.{pow-add, shr-shr, mod-pow-add, field, high}
+use lib.Bits.{bitAnd, and-shr, and-mod, and-lt}
+use lib.ListN.{length, getD, replicate}
+use lib.Seq.{ext-getD}
+use borrow.Author.Tests.{lt-ltb, le-ltb}
 use Rattle.region_map.proofs.Bools.{never}
-use Rattle.memory_device.specs.Table.{bitOf, bitAt, wordOf, wordsOf, tableOf, within, heldIn, bitsIn, setIn, allBelow, onlyBelow, partOf}
+use Rattle.memory_device.specs.Table.{bitOf, bitAt, wordOf, wordsOf, tableOf, heldIn, bitsIn, setIn, allBelow, onlyBelow, partOf}
 
 pub side : (e n : ℕ) → (e < n) ⊎ (n ≤ e)
 side e n = ⊎-elim (λ z. inr (omega arith)) (λ p. inl (omega arith)) (eq-zero-or-pos (n - e))
@@ -45,7 +45,7 @@ mod-word w (suc k) =
 pub word-bits : (w : ℕ) → w < 2 ^ 64 → w ≡ wordOf (bitOf w) 64
 word-bits w h = sym (mod-eq-of-lt h) ∙ mod-word w 64
 
-word-lt : (f : ℕ → Bool) (k : ℕ) → wordOf f k < 2 ^ k
+pub word-lt : (f : ℕ → Bool) (k : ℕ) → wordOf f k < 2 ^ k
 unfolding wordOf
 word-lt f zero = lit< tt
 word-lt f (suc k) = go (f k) (word-lt f k)
@@ -54,7 +54,7 @@ word-lt f (suc k) = go (f k) (word-lt f k)
     go true h = omega (arith, pow-suc 2 k)
     go false h = omega (arith, pow-suc 2 k)
 
-word-ext : (f g : ℕ → Bool) (n : ℕ) → ((k : ℕ) → k < n → f k ≡ g k) → wordOf f n ≡ wordOf g n
+pub word-ext : (f g : ℕ → Bool) (n : ℕ) → ((k : ℕ) → k < n → f k ≡ g k) → wordOf f n ≡ wordOf g n
 unfolding wordOf
 word-ext f g zero h = refl
 word-ext f g (suc n) h = rw (word-ext f g n (λ k p. h k (omega arith)), h n (omega arith))
@@ -211,7 +211,7 @@ no-bit k = ap (λ (x : ℕ). eqb (x % 2) 1) (zero-div (2 ^ k))
 pub zero-bit : (b : ℕ) → bitAt (replicate 16 0) b ≡ false
 zero-bit b = ap (λ (w : ℕ). bitOf w (b % 64)) (zero-word 16 (b / 64)) ∙ no-bit (b % 64)
 
-no-bits : (n : ℕ) → bitsIn 0 n ≡ 0
+pub no-bits : (n : ℕ) → bitsIn 0 n ≡ 0
 unfolding bitsIn
 no-bits zero = refl
 no-bits (suc n) = rw (no-bits n, no-bit n)
@@ -233,7 +233,7 @@ high-none w k h j p =
     ap (λ (x : ℕ). bitOf w x) e
     ∙ ap (λ (x : ℕ). eqb (x % 2) 1) (sym (shr-shr w k (j - k)) ∙ ap (λ (x : ℕ). x / 2 ^ (j - k)) h ∙ zero-div (2 ^ (j - k)))
 
-word-low : (f : ℕ → Bool) (k n : ℕ) → k ≤ n → ((j : ℕ) → k ≤ j → j < n → f j ≡ false) → wordOf f n ≡ wordOf f k
+pub word-low : (f : ℕ → Bool) (k n : ℕ) → k ≤ n → ((j : ℕ) → k ≤ j → j < n → f j ≡ false) → wordOf f n ≡ wordOf f k
 unfolding wordOf
 word-low f k zero p h = let e : 0 ≡ k = omega arith in ap (wordOf f) e
 word-low f k (suc n) p h =
@@ -326,10 +326,6 @@ module _ (t u : List ℕ) (i : ℕ) where
 
 -- ---- one more step of a count
 
-pub held-next : (t : List ℕ) (from n : ℕ) → heldIn t from (n + 1) ≡ heldIn t from n + cond (bitAt t (from + n)) 1 0
-unfolding heldIn
-held-next t from n = ap (heldIn t from) (add-one n)
-
 pub bits-next : (w n : ℕ) → bitsIn w (n + 1) ≡ bitsIn w n + cond (bitOf w n) 1 0
 unfolding bitsIn
 bits-next w n = ap (bitsIn w) (add-one n)
@@ -346,135 +342,5 @@ pub passed : (b : Bool) (m x : ℕ) → b ≡ false → m ≡ x → m ≡ x + co
 passed true m x e h = absurd (never e)
 passed false m x e h = omega arith
 
--- ---- turning one block
-
-pow-bit-same : (k : ℕ) → 2 ^ k / 2 ^ k % 2 ≡ 1
-pow-bit-same k = ap (λ (x : ℕ). x % 2) (div-self (pow-pos k))
-
-pow-bit-low : (j d : ℕ) → 2 ^ (suc d + j) / 2 ^ j % 2 ≡ 0
-pow-bit-low j d =
-    ap (λ (x : ℕ). x / 2 ^ j % 2) (pow-add 2 (suc d) j) ∙ ap (λ (x : ℕ). x % 2) (shl-shr (2 ^ suc d) j)
-    ∙ ap (λ (x : ℕ). x % 2) (pow-suc 2 d) ∙ mul-mod-left (2 ^ d) 2
-
-pow-bit-high : (j k : ℕ) → k < j → 2 ^ k / 2 ^ j % 2 ≡ 0
-pow-bit-high j k h = ap (λ (x : ℕ). x % 2) (div-eq-of-lt (pow-lt h))
-
-pow-bit-other : (j k : ℕ) → (j ≡ k → ⊥) → 2 ^ k / 2 ^ j % 2 ≡ 0
-pow-bit-other j k h =
-    ⊎-elim
-    (λ lt. let e : k ≡ suc (k - j - 1) + j = omega arith in ap (λ (x : ℕ). 2 ^ x / 2 ^ j % 2) e ∙ pow-bit-low j (k - j - 1))
-    (λ ge. pow-bit-high j k (omega arith))
-    (side j k)
-
-turn-bit : (w k j : ℕ) → bitXor w (2 ^ k) / 2 ^ j % 2 ≡ bitXor (w / 2 ^ j % 2) (2 ^ k / 2 ^ j % 2)
-turn-bit w k j = ap (λ (x : ℕ). x % 2) (xor-shr w (2 ^ k) j) ∙ xor-mod (w / 2 ^ j) (2 ^ k / 2 ^ j) 1
-
-flip-one : (x : ℕ) → x < 2 → eqb (bitXor x 1) 1 ≡ not (eqb x 1)
-flip-one zero h = refl
-flip-one (suc zero) h = refl
-flip-one (suc (suc x)) h = absurd (omega arith)
-
-turned-same : (w k : ℕ) → bitOf (bitXor w (2 ^ k)) k ≡ not (bitOf w k)
-turned-same w k =
-    ap (λ (x : ℕ). eqb x 1) (turn-bit w k k ∙ ap (bitXor (w / 2 ^ k % 2)) (pow-bit-same k))
-    ∙ flip-one (w / 2 ^ k % 2) (mod-lt (w / 2 ^ k) (lit< tt))
-
-turned-other : (w k j : ℕ) → (j ≡ k → ⊥) → bitOf (bitXor w (2 ^ k)) j ≡ bitOf w j
-turned-other w k j h = ap (λ (x : ℕ). eqb x 1) (turn-bit w k j ∙ ap (bitXor (w / 2 ^ j % 2)) (pow-bit-other j k h) ∙ xor-zero-r (w / 2 ^ j % 2))
-
-pub shl-one : (k : ℕ) → k < 64 → 1 * 2 ^ k % 18446744073709551616 ≡ 2 ^ k
-shl-one k h = shl-exact 1 k 64 (lit< tt) (omega arith) ∙ one-mul (2 ^ k)
-
-abbrev pub turn : List ℕ → ℕ → List ℕ
-turn t b = set t (b / 64) (bitXor (getD t (b / 64) 0) (2 ^ (b % 64)))
-
-module _ (t : List ℕ) (b : ℕ) (size : length t ≡ 16) (h : b < 1024) where
-  same-word : getD (turn t b) (b / 64) 0 ≡ bitXor (getD t (b / 64) 0) (2 ^ (b % 64))
-  same-word = getD-set-same t (b / 64) (bitXor (getD t (b / 64) 0) (2 ^ (b % 64))) 0 (omega arith)
-
-  other-word : (i : ℕ) → (i ≡ b / 64 → ⊥) → getD (turn t b) i 0 ≡ getD t i 0
-  other-word i ne = getD-set-other t (b / 64) i (bitXor (getD t (b / 64) 0) (2 ^ (b % 64))) 0 ne
-
-  turn-at : bitAt (turn t b) b ≡ not (bitAt t b)
-  turn-at = ap (λ (w : ℕ). bitOf w (b % 64)) same-word ∙ turned-same (getD t (b / 64) 0) (b % 64)
-
-  turn-else : (c : ℕ) → (c ≡ b → ⊥) → bitAt (turn t b) c ≡ bitAt t c
-  turn-else c ne =
-      ⊎-elim
-      (λ e. ap (λ (x : ℕ). bitOf (getD (turn t b) x 0) (c % 64)) e ∙ ap (λ (w : ℕ). bitOf w (c % 64)) same-word
-      ∙ turned-other (getD t (b / 64) 0) (b % 64) (c % 64) (λ q. ne (omega arith)) ∙ ap (λ (x : ℕ). bitOf (getD t x 0) (c % 64)) (sym e))
-      (λ n. ap (λ (w : ℕ). bitOf w (c % 64)) (other-word (c / 64) n))
-      (eq-or-not (c / 64) (b / 64))
-
-  turn-fits : ((i : ℕ) → i < 16 → getD t i 0 < 2 ^ 64) → (i : ℕ) → i < 16 → getD (turn t b) i 0 < 2 ^ 64
-  turn-fits f i p =
-      ⊎-elim
-      (λ (e : i ≡ b / 64). subst (λ (x : ℕ). getD (turn t b) x 0 < 2 ^ 64) (sym e) (subst (λ (x : ℕ). x < 2 ^ 64) (sym same-word)
-      (xor-lt 64 (getD t (b / 64) 0) (2 ^ (b % 64)) (f (b / 64) (omega arith)) (pow-lt {j = 64} (omega arith)))))
-      (λ ne. subst (λ (x : ℕ). x < 2 ^ 64) (sym (other-word i ne)) (f i p))
-      (eq-or-not i (b / 64))
-
--- ---- the blocks from `from` on, n of them, turned to `on`
-
-pub record Run (t u : List ℕ) (from n : ℕ) (on : Bool) : Type 0 where
-  pub size : length u ≡ 16
-  pub fits : (i : ℕ) → i < 16 → getD u i 0 < 2 ^ 64
-  pub each : (b : ℕ) → b < 1024 → bitAt u b ≡ cond (within from n b) on (bitAt t b)
-
-within-new : (from i : ℕ) → within from (i + 1) (from + i) ≡ true
-within-new from i = simp (le-leb from (from + i) (omega arith), lt-ltb (from + i) (from + (i + 1)) (omega arith))
-
-within-old : (from i c : ℕ) → (c ≡ from + i → ⊥) → within from (i + 1) c ≡ within from i c
-within-old from i c ne =
-    ap (λ (t : Bool). leb from c && t)
-    (⊎-elim (λ lt. lt-ltb c (from + (i + 1)) (omega arith) ∙ sym (lt-ltb c (from + i) lt)) (λ ge. le-ltb c (from + (i + 1)) (omega arith) ∙ sym (le-ltb c (from + i) ge)) (side c (from + i)))
-
-within-none : (from c : ℕ) → within from 0 c ≡ false
-within-none from c =
-    ⊎-elim (λ lt. simp (lt-leb from c lt)) (λ ge. simp (le-leb from c ge, le-ltb c (from + 0) (omega arith))) (side c from)
-
-pub run-none : (t : List ℕ) (from : ℕ) (on : Bool) → length t ≡ 16 → ((i : ℕ) → i < 16 → getD t i 0 < 2 ^ 64) → Run t t from 0 on
-run-none t from on s f = record { size = s; fits = f; each = λ b h. sym (ap (λ (x : Bool). cond x on (bitAt t b)) (within-none from b)) }
-
-module _ (t u : List ℕ) (from i : ℕ) (on : Bool) (f : Run t u from i on) (h : from + i < 1024) where
-  new-block : (c : ℕ) → c ≡ from + i → cond (within from (i + 1) c) on (bitAt t c) ≡ on
-  new-block c e = ap (λ (x : Bool). cond x on (bitAt t c)) (ap (within from (i + 1)) e ∙ within-new from i)
-
-  old-block : (c : ℕ) → (c ≡ from + i → ⊥) → cond (within from (i + 1) c) on (bitAt t c) ≡ cond (within from i c) on (bitAt t c)
-  old-block c ne = ap (λ (x : Bool). cond x on (bitAt t c)) (within-old from i c ne)
-
-  pub run-keep : bitAt u (from + i) ≡ on → Run t u from (i + 1) on
-  run-keep p = record {
-    size = f .size;
-    fits = f .fits;
-    each = λ c ch. ⊎-elim (λ e. ap (bitAt u) e ∙ p ∙ sym (new-block c e)) (λ ne. f .each c ch ∙ sym (old-block c ne)) (eq-or-not c (from + i));
-  }
-
-  pub run-turn : not (bitAt u (from + i)) ≡ on → Run t (turn u (from + i)) from (i + 1) on
-  run-turn p = record {
-    size = length-set u ((from + i) / 64) (bitXor (getD u ((from + i) / 64) 0) (2 ^ ((from + i) % 64))) ∙ f .size;
-    fits = turn-fits u (from + i) (f .size) h (f .fits);
-    each = λ c ch. ⊎-elim
-        (λ e. ap (bitAt (turn u (from + i))) e ∙ turn-at u (from + i) (f .size) h ∙ p ∙ sym (new-block c e))
-        (λ ne. turn-else u (from + i) (f .size) h c ne ∙ f .each c ch ∙ sym (old-block c ne))
-        (eq-or-not c (from + i));
-  }
-
-pub run-end : (t u : List ℕ) (from n : ℕ) (on : Bool) → Run t u from n on → u ≡ tableOf (λ b. cond (within from n b) on (bitAt t b))
-run-end t u from n on f = table-ext u (λ b. cond (within from n b) on (bitAt t b)) (f .size) (f .fits) (f .each)
-
 pub same-end : {i n : ℕ} → i ≤ n → n ≤ i → i ≡ n
 same-end p q = omega arith
-
--- two tests that differ, or do not
-pub differs : (a b : Bool) → not (Bool·beq a b) ≡ true → not a ≡ b
-differs true true e = e
-differs true false e = refl
-differs false true e = refl
-differs false false e = sym e
-
-pub agrees : (a b : Bool) → not (Bool·beq a b) ≡ false → a ≡ b
-agrees true true e = refl
-agrees true false e = e
-agrees false true e = sym e
-agrees false false e = refl

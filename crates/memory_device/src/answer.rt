@@ -11,7 +11,8 @@ use crate::request::Request;
 use crate::request::Response;
 use crate::state::plugged_size;
 use crate::state::with_tables;
-use crate::table::held;
+use crate::table::all_set;
+use crate::table::none_set;
 use crate::table::total;
 use crate::table::with_run;
 use region_map::map::GuestAddress;
@@ -106,7 +107,7 @@ fn plug_answer(device: MemoryDevice, request: Request, from: usize) -> Response
 {
     let plugged = device.plugged;
     let count = request.blocks as usize;
-    if 0 < held(plugged, from, count) {
+    if !none_set(plugged, from, count) {
         return Response::Error;
     }
     let size = plugged_size(device) + request.blocks * device.block_size;
@@ -124,10 +125,10 @@ fn unplug_answer(device: MemoryDevice, request: Request, from: usize) -> Respons
     let plugged = device.plugged;
     let pinned = device.pinned;
     let count = request.blocks as usize;
-    if held(plugged, from, count) < count {
+    if !all_set(plugged, from, count) {
         return Response::Error;
     }
-    if 0 < held(pinned, from, count) {
+    if !none_set(pinned, from, count) {
         return Response::Busy;
     }
     Response::Ack
@@ -151,11 +152,10 @@ fn state_answer(device: MemoryDevice, request: Request, from: usize) -> Response
 {
     let plugged = device.plugged;
     let count = request.blocks as usize;
-    let set = held(plugged, from, count);
-    if set == count {
+    if all_set(plugged, from, count) {
         return Response::Plugged;
     }
-    if set == 0 {
+    if none_set(plugged, from, count) {
         return Response::Unplugged;
     }
     Response::Mixed

@@ -1,8 +1,12 @@
 // A table of 1,024 blocks in sixteen words.
 ghost use mathlib.Core.Path.{_≡_};
 ghost use mathlib.Core.Bool.{cond};
-ghost use Prim.Native.Nat.{_+_, _≤_, _<_};
-ghost use Rattle.memory_device.specs.Table.{bitAt, within, tableOf, heldIn, bitsIn, setIn, onlyBelow, partOf};
+ghost use Prim.Native.Nat.{_+_, _*_, _≤_, _<_};
+ghost use lib.Dec.{eqb, ltb};
+ghost use Rattle.memory_device.specs.Table.{bitOf, bitAt, wordOf, within, tableOf, heldIn, bitsIn, setIn, onlyBelow, partOf};
+
+// Every bit of a word.
+const ALL: u64 = 0xffff_ffff_ffff_ffff;
 
 // Is block b set?
 pub fn is_set(words: [u64; 16], b: usize) -> bool
@@ -14,38 +18,85 @@ pub fn is_set(words: [u64; 16], b: usize) -> bool
     (word >> k) % 2 == 1
 }
 
+// Of the word whose first block is `start`, the bits of the blocks below b.
+fn bits_below(start: usize, b: usize) -> u64
+    ensures { λ r. ⌜ r ≡ wordOf (λ k. ltb (start + k) b) 64 ⌝ }
+{
+    if b <= start {
+        return 0;
+    }
+    let count = (b - start) as u64;
+    if 64 <= count {
+        return ALL;
+    }
+    (1 << count) - 1
+}
+
+// Word i, with those of its blocks that are among the n blocks from `from` on set or not.
+fn word_with(word: u64, i: usize, from: usize, n: usize, on: bool) -> u64
+    requires { ⌜ (from + n ≤ 1024) × (i < 16) ⌝ }
+    ensures { λ r. ⌜ r ≡ wordOf (λ k. cond (within from n (i * 64 + k)) on (bitOf word k)) 64 ⌝ }
+{
+    let start = i * 64;
+    let upto = bits_below(start, from + n);
+    let before = bits_below(start, from);
+    let run = upto ^ before;
+    let set = word | run;
+    if on {
+        return set;
+    }
+    set ^ run
+}
+
 // The table with the n blocks from `from` on set or not.
 pub fn with_run(words: [u64; 16], from: usize, n: usize, on: bool) -> [u64; 16]
     requires { ⌜ from + n ≤ 1024 ⌝ }
     ensures { λ r. ⌜ r ≡ tableOf (λ b. cond (within from n b) on (bitAt words b)) ⌝ }
 {
     let mut table = words;
-    let mut i: usize = 0;
-    while i < n {
-        let b = from + i;
-        if is_set(table, b) != on {
-            let at = b / 64;
-            let word = table[at];
-            let k = (b % 64) as u64;
-            table[at] = word ^ (1 << k);
-        }
+    let end = from + n;
+    let mut i = from / 64;
+    while i * 64 < end {
+        let word = table[i];
+        let turned = word_with(word, i, from, n, on);
+        table[i] = turned;
         i += 1;
     }
     table
 }
 
-// How many of the n blocks from `from` on are set.
-pub fn held(words: [u64; 16], from: usize, n: usize) -> usize
+// Are the n blocks from `from` on all set, or all not set? Then turning them so changes no word.
+fn run_is(words: [u64; 16], from: usize, n: usize, on: bool) -> bool
     requires { ⌜ from + n ≤ 1024 ⌝ }
-    ensures { λ r. ⌜ (r ≡ heldIn words from n) × (r ≤ n) ⌝ }
+    ensures { λ r. ⌜ r ≡ eqb (heldIn words from n) (cond on n 0) ⌝ }
 {
-    let mut count: usize = 0;
-    for i in 0..n {
-        if is_set(words, from + i) {
-            count += 1;
+    let end = from + n;
+    let mut i = from / 64;
+    while i * 64 < end {
+        let word = words[i];
+        let turned = word_with(word, i, from, n, on);
+        if turned != word {
+            return false;
         }
+        i += 1;
     }
-    count
+    true
+}
+
+// Is none of the n blocks from `from` on set?
+pub fn none_set(words: [u64; 16], from: usize, n: usize) -> bool
+    requires { ⌜ from + n ≤ 1024 ⌝ }
+    ensures { λ r. ⌜ r ≡ eqb (heldIn words from n) 0 ⌝ }
+{
+    run_is(words, from, n, false)
+}
+
+// Is each of the n blocks from `from` on set?
+pub fn all_set(words: [u64; 16], from: usize, n: usize) -> bool
+    requires { ⌜ from + n ≤ 1024 ⌝ }
+    ensures { λ r. ⌜ r ≡ eqb (heldIn words from n) n ⌝ }
+{
+    run_is(words, from, n, true)
 }
 
 // How many bits of a word are set.
@@ -67,7 +118,10 @@ pub fn total(words: [u64; 16]) -> u64
 {
     let mut count: u64 = 0;
     for i in 0..16usize {
-        count += ones(words[i]);
+        let word = words[i];
+        if word != 0 {
+            count += ones(word);
+        }
     }
     count
 }

@@ -1,10 +1,11 @@
 -- `memory_device::table::total` meets its contract. Assumes nothing.
 use mathlib.Core.Path.{_≡_, refl, ap, ap₂, _∙_, sym}
-use Prim.Native.Nat.{_+_, _-_, _*_, _≤_}
+use mathlib.Core.Logic.{⊎-elim}
+use Prim.Native.Nat.{ℕ, _+_, _-_, _*_, _≤_}
 use native.Mathlib.Omega.{arith}
+use Rattle.memory_device.specs.Table.{bitsIn, setIn}
+use Rattle.memory_device.proofs.TableLaws.{set-next, no-bits}
 use borrow.Author.Needs.{needs}
-use Rattle.memory_device.specs.Table.{setIn}
-use Rattle.memory_device.proofs.TableLaws.{set-next}
 use Rattle.memory_device.proofs.table.total.Statement.{statement}
 use Rattle.memory_device.proofs.table.total.Tie as tie
 
@@ -18,11 +19,11 @@ loop-holds : tie.Need-loop-holds Inv-loop μ-loop
 unfolding setIn
 loop-holds c = (search needs, refl, search needs)
 
-mul-ones : tie.Need-mul-ones Inv-loop μ-loop
-mul-ones c = search needs
+mul-word : tie.Need-mul-word Inv-loop μ-loop
+mul-word c = search needs
 
-array-read-ones : tie.Need-array-read-ones Inv-loop μ-loop
-array-read-ones c = search needs
+array-read-word : tie.Need-array-read-word Inv-loop μ-loop
+array-read-word c = search needs
 
 ones-requires : tie.Need-ones-requires Inv-loop μ-loop
 ones-requires c κs = search needs
@@ -40,7 +41,11 @@ loop-again : tie.Need-loop-again Inv-loop μ-loop
 loop-again c =
     let t = c .before .before .before .args .t1 in
     let i = c .before .before .loop .i in
-    (omega arith, ap₂ _+_ (c .before .before .loop .inv .1) (c .ones .ensures .0) ∙ sym (set-next t i), omega arith)
+    let old = c .before .before .loop .inv .1 in
+    ⊎-elim
+    (λ w. (omega arith, w .2 ∙ ap₂ _+_ old (w .1 .ensures .0) ∙ sym (set-next t i), omega (arith, w .2, w .1 .ensures .1)))
+    (λ w. (omega arith, w .1 ∙ old ∙ omega (arith, set-next t i, ap (λ (x : ℕ). bitsIn x 64) (w .0 .left) ∙ no-bits 64), omega (arith, w .1)))
+    (c .if1 .came)
 
 returns : tie.Need-returns Inv-loop μ-loop
 returns c =
@@ -54,8 +59,8 @@ total-spec =
     Inv-loop
     μ-loop
     loop-holds
-    mul-ones
-    array-read-ones
+    mul-word
+    array-read-word
     ones-requires
     add-count
     add-i
