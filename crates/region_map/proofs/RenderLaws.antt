@@ -1,17 +1,17 @@
 -- Laws of the table of pieces: a window, what is put behind a table, what the tree puts there, and the flat list that the pieces give. Assumes nothing.
 use mathlib.Core.Path.{_≡_, refl, sym, ap, subst, _∙_}
-use mathlib.Core.Bool.{Bool, true, false, _&&_, _||_, cond}
+use mathlib.Core.Bool.{Bool, true, false, _||_}
 use mathlib.Core.List.{List}
 use mathlib.Core.Logic.{_⊎_, inl, inr, ⊎-elim}
 use Prim.Native.Nat.{ℕ, zero, suc, _+_, _-_, _%_, _≤_, _<_}
 use native.Mathlib.Nat.{add-zero, add-suc, not-suc-le-zero}
 use native.Mathlib.Decide.{ℕ-discrete, decLt}
 use native.Mathlib.Omega.{arith}
-use borrow.Author.Tests.{eq-eqb, ne-eqb, le-leb, lt-leb, leb-true, leb-false, ltb-true, ltb-false, lt-ltb, le-ltb}
+use borrow.Author.Tests.{leb-true, leb-false, ltb-true, ltb-false}
 use lib.Dec.{leb, ltb}
 use lib.ListN.{length}
 use Rattle.region_map.specs.Map.{region}
-use Rattle.region_map.specs.Walk.{ranked, orElse, own, answer, tried, walkBelow, walk, walkRoot}
+use Rattle.region_map.specs.Walk.{ranked, orElse, answer, tried, walkBelow, walk, walkRoot}
 use Rattle.region_map.specs.Span.{shift, Walkable, NextChild}
 use Rattle.region_map.specs.FlatList.{extend, flat}
 use Rattle.region_map.specs.Flatten.{Grew}
@@ -22,16 +22,12 @@ use Rattle.region_map.specs.declared.resolve.Resolved.the-variants.{Noth
 use Rattle.region_map.specs.declared.flat.Backing.{Backing}
 use Rattle.region_map.specs.declared.flat.Pushed.{Pushed}
 use Rattle.region_map.specs.declared.view.FlatRange.{FlatRange}
-use Rattle.region_map.proofs.WalkLaws.{tried-skip, tried-suc, past, child-at, child-before, walk-alias, walk-inside}
-use Rattle.region_map.proofs.WindowLaws.{window-in, window-before, window-past}
+use Rattle.region_map.proofs.WalkLaws.{past, child-at, child-before, walk-alias, walk-inside, own-is, own-none, tried-none, tried-next}
+use Rattle.region_map.proofs.WindowLaws.{window-in, window-before, window-past, or-nothing}
 use Rattle.region_map.proofs.Bools.{or-left, or-right}
 use Rattle.region_map.proofs.ViewLaws.{turned}
 
 -- The first that answers.
-
-orElse-nothing : (x : Resolved) → x ≡ orElse x Nothing
-orElse-nothing Nothing = refl
-orElse-nothing (At n o) = refl
 
 orElse-assoc : (x y z : Resolved) → orElse (orElse x y) z ≡ orElse x (orElse y z)
 orElse-assoc Nothing y z = refl
@@ -98,7 +94,7 @@ behind-none w f k e = record {
   kept = k;
   start = refl;
   within = omega arith;
-  gives = λ a h. orElse-nothing (shown w a) ∙ ap (orElse (shown w a)) (sym (e a h));
+  gives = λ a h. sym (or-nothing (shown w a)) ∙ ap (orElse (shown w a)) (sym (e a h));
 }
 
 pub behind-then : {w v u : List ℕ} {f g : ℕ → Resolved} → Behind w f v → Behind v g u → Behind w (λ a. orElse (f a) (g a)) u
@@ -143,23 +139,6 @@ module _ (m : RegionMap) (n : ℕ) {w v : List ℕ} (first offset end r : ℕ) (
       ∙ ap (λ (o : ℕ). window (tried m (walkBelow m n) n 8192) first o (first + r) a) z) b
 
 -- The children of n, and n itself.
-
-tried-none : (m : RegionMap) (u : ℕ → ℕ → Resolved) (n b r : ℕ) → NextChild m n b r → r ≡ 0 → (x : ℕ) → tried m u n b x ≡ own m n x
-unfolding tried
-tried-none m u n b r h e x = tried-skip m u n b r (h .within) (h .above) x ∙ ap (λ (j : ℕ). tried m u n j x) e
-
-tried-next : (m : RegionMap) (u : ℕ → ℕ → Resolved) (n b r : ℕ) → NextChild m n b r → (r ≡ 0 → ⊥) → (x : ℕ) → tried m u n b x ≡ orElse (answer m u n (r - 1) x) (tried m u n (r - 1) x)
-tried-next m u n b r h ne x =
-    let e : r ≡ (r - 1) + 1 = omega arith in
-    tried-skip m u n b r (h .within) (h .above) x ∙ ap (λ (j : ℕ). tried m u n j x) e ∙ tried-suc m u n (r - 1) x
-
-own-is : (m : RegionMap) (n : ℕ) → (region m n .kind ≡ 0 → ⊥) → (x : ℕ) → own m n x ≡ itself n x
-unfolding own
-own-is m n e x = rw (ne-eqb _ _ e)
-
-own-none : (m : RegionMap) (n : ℕ) → region m n .kind ≡ 0 → (x : ℕ) → own m n x ≡ Nothing
-unfolding own
-own-none m n e x = rw (eq-eqb _ _ e)
 
 module _ (m : RegionMap) (n b r first offset end : ℕ) (next : NextChild m n b r) where
   pub the-node : {w v : List ℕ} → r ≡ 0 → (region m n .kind ≡ 0 → ⊥) → Behind w (window (itself n) first offset end) v

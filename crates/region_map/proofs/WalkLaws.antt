@@ -1,24 +1,21 @@
 -- Laws of the walk's definitions. Assumes nothing.
-use mathlib.Core.Path.{_≡_, refl, sym, ap, subst, _∙_}
+use mathlib.Core.Path.{_≡_, refl, sym, ap, _∙_}
 use mathlib.Core.Bool.{Bool, true, false, _&&_, cond}
-use Prim.Native.Nat.{ℕ, zero, suc, _+_, _-_, _*_, _%_, _^_, _≤_, _<_}
+use Prim.Native.Nat.{ℕ, zero, suc, _+_, _-_, _%_, _≤_, _<_}
 use mathlib.Core.Logic.{_⊎_, ⊎-elim}
 use native.Mathlib.Nat.{add-zero, add-suc}
-use native.Mathlib.Numerals.{add-one}
 use native.Mathlib.Omega.{arith}
-use borrow.Author.Tests.{eq-eqb, ne-eqb, le-leb, lt-leb, eqb-true, eqb-false, leb-true, leb-false, ltb-true, lt-ltb, le-ltb, ltb-false}
-use lib.Dec.{eqb, leb, ltb}
+use borrow.Author.Tests.{eq-eqb, ne-eqb, le-leb, lt-leb, eqb-true, eqb-false, ltb-true, ltb-false, lt-ltb}
+use lib.Dec.{eqb, ltb}
 use Rattle.region_map.specs.declared.map.Region.{Region}
 use Rattle.region_map.specs.declared.map.RegionMap.{RegionMap}
-use Rattle.region_map.specs.declared.map.RegionOffset.{RegionOffset}
-use Rattle.region_map.specs.declared.walk.Seen.{Seen}
 use Rattle.region_map.specs.declared.resolve.Resolved.{Resolved}
 use Rattle.region_map.specs.declared.resolve.Resolved.the-variants.{Nothing, At}
 use Rattle.region_map.proofs.Bools.{and-fst, and-snd}
 use Rattle.region_map.specs.Map.{region}
 use Rattle.region_map.specs.Clash.{priorityOf}
 use Rattle.region_map.specs.Walk.{rank, child, ranked, orElse, holds, asked, own, answer, tried, visit, walkBelow, walk}
-use Rattle.region_map.specs.Span.{shift, Steady, Sees, Walkable, NextChild}
+use Rattle.region_map.specs.Span.{Walkable, NextChild}
 
 -- Tests.
 
@@ -86,10 +83,6 @@ walk-below m (suc k) c a h = go (eqb c k) refl (walk-below m k c a)
 
 -- Children that are passed over.
 
-pub tried-suc : (m : RegionMap) (u : ℕ → ℕ → Resolved) (n r a : ℕ) → tried m u n (r + 1) a ≡ orElse (answer m u n r a) (tried m u n r a)
-unfolding tried
-tried-suc m u n r a = rw add-one
-
 none-ranked : (m : RegionMap) (u : ℕ → ℕ → Resolved) (n r a : ℕ) → ranked m n r ≡ false → answer m u n r a ≡ Nothing
 unfolding answer
 none-ranked m u n r a e = rw e
@@ -101,61 +94,10 @@ skip m u n r a (suc j) h =
     rw (add-suc, none-ranked m u n (r + j) a (h (r + j) (omega arith) (omega arith)))
     (skip m u n r a j (λ k l g. h k l (omega arith)))
 
-pub tried-skip : (m : RegionMap) (u : ℕ → ℕ → Resolved) (n b r : ℕ) → r ≤ b → ((k : ℕ) → r ≤ k → k < b → ranked m n k ≡ false) → (a : ℕ) → tried m u n b a ≡ tried m u n r a
+tried-skip : (m : RegionMap) (u : ℕ → ℕ → Resolved) (n b r : ℕ) → r ≤ b → ((k : ℕ) → r ≤ k → k < b → ranked m n k ≡ false) → (a : ℕ) → tried m u n b a ≡ tried m u n r a
 tried-skip m u n b r l h a =
     let e : r + (b - r) ≡ b = omega arith in
     rw e at (skip m u n r a (b - r) (λ k g w. h k g (omega arith)))
-
--- Answers that stay.
-
-shift-orElse : (d : ℕ) (x y : Resolved) → shift d (orElse x y) ≡ orElse (shift d x) (shift d y)
-shift-orElse d Nothing y = refl
-shift-orElse d (At n o) y = refl
-
-pub sees-ext : {f g : ℕ → Resolved} {a : ℕ} {r : Seen} → ((x : ℕ) → f x ≡ g x) → Sees g a r → Sees f a r
-unfolding Steady
-sees-ext {f} {g} {a} e s = record {
-  answer = s .answer ∙ sym (e a);
-  some = s .some;
-  steady = λ d h. e (a + d) ∙ s .steady d h ∙ ap (shift d) (sym (e a));
-}
-
--- where f is g below `size`
-pub sees-within : {f g : ℕ → Resolved} {a : ℕ} {r : Seen} (size w : ℕ) → ((x : ℕ) → x < size → f x ≡ g x) → Sees g a r → a < size → w ≤ r .span → w ≤ size - a → 0 < w → Sees f a (record { answer = r .answer; span = w })
-unfolding Steady
-sees-within {f} {g} {a} size w e s h l k p = record {
-  answer = s .answer ∙ sym (e a h);
-  some = p;
-  steady = λ d i. e (a + d) (omega arith) ∙ s .steady d (omega arith) ∙ ap (shift d) (sym (e a h));
-}
-
--- where f answers nothing, g does
-pub sees-rest : {f g : ℕ → Resolved} {a : ℕ} {r q : Seen} (w : ℕ) → Sees f a r → r .answer ≡ Nothing → Sees g a q → w ≤ r .span → w ≤ q .span → 0 < w → Sees (λ x. orElse (f x) (g x)) a (record { answer = q .answer; span = w })
-unfolding Steady
-sees-rest {f} {g} {a} w s e t l k p = record {
-  answer = rw (← s .answer, e, t .answer);
-  some = p;
-  steady = λ d i. rw (s .steady d (omega arith), t .steady d (omega arith), shift-orElse);
-}
-
--- where f answers, it wins
-pub sees-first : {f : ℕ → Resolved} {a : ℕ} {r : Seen} (g : ℕ → Resolved) (n : ℕ) (o : RegionOffset) → Sees f a r → r .answer ≡ At n o → Sees (λ x. orElse (f x) (g x)) a r
-unfolding Steady
-sees-first {f} {a} g n o s e =
-    let fa : f a ≡ At n o = sym (s .answer) ∙ e in
-    record {
-      answer = rw (s .answer, fa);
-      some = s .some;
-      steady = λ d i. rw (s .steady d i, fa);
-    }
-
-pub sees-later : {f : ℕ → Resolved} {a : ℕ} {r : Seen} (k : ℕ) → Sees f (a + k) r → Sees (λ x. f (x + k)) a r
-unfolding Steady
-sees-later {f} {a} k s = record {
-  answer = s .answer;
-  some = s .some;
-  steady = λ d i. let e : a + d + k ≡ a + k + d = omega arith in rw e (s .steady d i);
-}
 
 -- A child.
 
@@ -175,52 +117,17 @@ pub child-before : (m : RegionMap) (n k : ℕ) → ranked m n k ≡ true → (x 
 unfolding answer asked holds
 child-before m n k e x h = rw (e, lt-leb _ _ h)
 
-pub child-sees : (m : RegionMap) (n k a : ℕ) (r : Seen) → ranked m n k ≡ true → region m (k % 32) .offset ≤ a → Sees (walk m (k % 32)) (a - region m (k % 32) .offset) r → Sees (answer m (walkBelow m n) n k) a r
-unfolding Steady
-child-sees m n k a r e l s = record {
-  answer = s .answer ∙ sym (child-at m n k e a l);
-  some = s .some;
-  steady = λ d i.
-      let off : ℕ = region m (k % 32) .offset in
-      let p : (a + d) - off ≡ (a - off) + d = omega arith in
-      child-at m n k e (a + d) (omega arith) ∙ rw p (s .steady d i) ∙ ap (shift d) (sym (child-at m n k e a l));
-}
-
-pub child-later : (m : RegionMap) (n k a : ℕ) → ranked m n k ≡ true → a < region m (k % 32) .offset → Sees (answer m (walkBelow m n) n k) a (record { answer = Nothing; span = region m (k % 32) .offset - a })
-unfolding Steady
-child-later m n k a e l = record {
-  answer = sym (child-before m n k e a l);
-  some = omega arith;
-  steady = λ d i. rw (child-before m n k e (a + d) (omega arith), child-before m n k e a l);
-}
-
 -- A node itself.
 
-pub own-nothing : (m : RegionMap) (u : ℕ → ℕ → Resolved) (n a w : ℕ) → region m n .kind ≡ 0 → 0 < w → Sees (tried m u n 0) a (record { answer = Nothing; span = w })
-unfolding Steady tried own
-own-nothing m u n a w e p = record {
-  answer = rw (eq-eqb _ _ e);
-  some = p;
-  steady = λ d i. rw (eq-eqb _ _ e);
-}
+pub own-is : (m : RegionMap) (n : ℕ) → (region m n .kind ≡ 0 → ⊥) → (x : ℕ) → own m n x ≡ At n (record { 0 = x })
+unfolding own
+own-is m n e x = rw (ne-eqb _ _ e)
 
-pub own-self : (m : RegionMap) (u : ℕ → ℕ → Resolved) (n a w : ℕ) → (region m n .kind ≡ 0 → ⊥) → 0 < w → Sees (tried m u n 0) a (record { answer = At n (record { 0 = a }); span = w })
-unfolding Steady tried own
-own-self m u n a w e p = record {
-  answer = rw (ne-eqb _ _ e);
-  some = p;
-  steady = λ d i. rw (ne-eqb _ _ e);
-}
+pub own-none : (m : RegionMap) (n : ℕ) → region m n .kind ≡ 0 → (x : ℕ) → own m n x ≡ Nothing
+unfolding own
+own-none m n e x = rw (eq-eqb _ _ e)
 
 -- A node's walk.
-
-pub walk-past : (m : RegionMap) (n a w : ℕ) → region m n .size ≤ a → 0 < w → Sees (walk m n) a (record { answer = Nothing; span = w })
-unfolding Steady
-walk-past m n a w h p = record {
-  answer = sym (past m n a h);
-  some = p;
-  steady = λ d i. rw (past m n (a + d) (omega arith), past m n a h);
-}
 
 pub walk-alias : (m : RegionMap) → Walkable m → (n : ℕ) → n < m .count → region m n .kind ≡ 3 → (x : ℕ) → x < region m n .size → walk m n x ≡ walk m (region m n .target) (x + region m n .«alias_offset»)
 unfolding walk visit
@@ -232,13 +139,15 @@ walk-inside m n e x h = rw (lt-leb _ _ h, ne-eqb _ _ e)
 
 -- From what the search for the next child finds.
 
-pub to-next : (m : RegionMap) (u : ℕ → ℕ → Resolved) (n b r a : ℕ) (q : Seen) → NextChild m n b r → Sees (tried m u n r) a q → Sees (tried m u n b) a q
-to-next m u n b r a q h s = sees-ext (tried-skip m u n b r (h .within) (h .above)) s
-
 pub is-child : (m : RegionMap) (n b r : ℕ) → NextChild m n b r → (r ≡ 0 → ⊥) → ranked m n (r - 1) ≡ true
 is-child m n b r h ne = h .found (r - 1) (omega arith)
 
-pub to-child : (m : RegionMap) (u : ℕ → ℕ → Resolved) (n b r a : ℕ) (q : Seen) → NextChild m n b r → (r ≡ 0 → ⊥) → Sees (λ x. orElse (answer m u n (r - 1) x) (tried m u n (r - 1) x)) a q → Sees (tried m u n b) a q
-to-child m u n b r a q h ne s =
-    let e : r ≡ (r - 1) + 1 = omega arith in
-    to-next m u n b r a q h (sees-ext (λ x. ap (λ (j : ℕ). tried m u n j x) e ∙ tried-suc m u n (r - 1) x) s)
+pub tried-none : (m : RegionMap) (u : ℕ → ℕ → Resolved) (n b r : ℕ) → NextChild m n b r → r ≡ 0 → (x : ℕ) → tried m u n b x ≡ own m n x
+unfolding tried
+tried-none m u n b r h e x = tried-skip m u n b r (h .within) (h .above) x ∙ ap (λ (j : ℕ). tried m u n j x) e
+
+pub tried-next : (m : RegionMap) (u : ℕ → ℕ → Resolved) (n b r : ℕ) → NextChild m n b r → (r ≡ 0 → ⊥) → (x : ℕ) → tried m u n b x ≡ orElse (answer m u n (r - 1) x) (tried m u n (r - 1) x)
+unfolding tried
+tried-next m u n b r h ne x =
+    let e : r ≡ suc (r - 1) = omega arith in
+    tried-skip m u n b r (h .within) (h .above) x ∙ ap (λ (j : ℕ). tried m u n j x) e

@@ -1,11 +1,10 @@
--- What the walk's functions promise each other: the answer with a number of following addresses over which it only shifts. No promise of an entry point cites these. Assumes nothing: these are definitions.
+-- What the functions of the walk and of the flat view need of a map and of each other, and an answer some bytes on, of which the flat view's laws speak. No promise of an entry point cites these. Assumes nothing: these are definitions.
 use mathlib.Core.Path.{_≡_}
-use mathlib.Core.Bool.{Bool, true, false}
+use mathlib.Core.Bool.{true, false}
 use Prim.Native.Nat.{ℕ, _+_, _^_, _≤_, _<_}
 use Rattle.region_map.specs.Map.{alias, region}
 use Rattle.region_map.specs.Walk.{ranked}
 use Rattle.region_map.specs.declared.map.RegionMap.{RegionMap}
-use Rattle.region_map.specs.declared.walk.Seen.{Seen}
 use Rattle.region_map.specs.declared.resolve.Resolved.{Resolved}
 use Rattle.region_map.specs.declared.resolve.Resolved.the-variants.{Nothing, At}
 
@@ -13,16 +12,6 @@ use Rattle.region_map.specs.declared.resolve.Resolved.the-variants.{Noth
 abbrev pub shift : ℕ → Resolved → Resolved
 shift d Nothing = Nothing
 shift d (At n o) = At n (record { 0 = o .0 + d })
-
--- f answers the same, byte after byte, at the s addresses from a on
-unfoldable pub Steady : (ℕ → Resolved) → ℕ → ℕ → Type 0
-Steady f a s = (d : ℕ) → d < s → f (a + d) ≡ shift d (f a)
-
--- r is what f answers at a, with a number of addresses over which that is steady
-pub record Sees (f : ℕ → Resolved) (a : ℕ) (r : Seen) : Type 0 where
-  pub answer : r .answer ≡ f a
-  pub some : 0 < r .span
-  pub steady : Steady f a (r .span)
 
 -- what the walk needs of a map; `Sound` gives it
 pub record Walkable (m : RegionMap) : Type 0 where

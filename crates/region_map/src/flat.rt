@@ -12,6 +12,7 @@ use crate::map::MMIO;
 use crate::map::RegionMap;
 use crate::map::RegionOffset;
 use crate::pieces::begin;
+use crate::pieces::least;
 use crate::pieces::piece_at;
 use crate::render::render;
 use crate::resolve::Resolved;
@@ -19,7 +20,6 @@ use crate::resolve::root_offset;
 use crate::view::FlatRange;
 use crate::view::FlatView;
 use crate::view::empty_view;
-use crate::walk::least;
 
 // What a range carries of its region: the kind, and the memory start or port.
 pub struct Backing {

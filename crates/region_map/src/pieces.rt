@@ -8,7 +8,6 @@ ghost use lib.Seq.{sets};
 ghost use Rattle.region_map.specs.Pieces.{pieceWords, countOf, horizonOf, startOf, firstOf, endOf, regionOf, offsetOf, window, itself, Pieces, Behind, Spot, Moved, Fits, Free};
 use crate::map::GuestAddress;
 use crate::map::RegionOffset;
-use crate::walk::least;
 
 // A table's words: the count, the horizon, the start, and four for each piece.
 pub const WORDS: usize = 1027;
@@ -21,6 +20,12 @@ pub struct Piece {
     pub end: u64,
     pub region: usize,
     pub offset: u64,
+}
+
+pub fn least(a: u64, b: u64) -> u64
+    ensures { λ r. ⌜ (r ≤ a) × (r ≤ b) × (0 < a → 0 < b → 0 < r) × (r < a → b ≤ r) ⌝ }
+{
+    if a < b { a } else { b }
 }
 
 // An empty table for the addresses from `start` up to `end`.

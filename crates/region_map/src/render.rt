@@ -12,7 +12,7 @@ use crate::map::GuestAddress;
 use crate::map::RegionMap;
 use crate::map::RegionOffset;
 use crate::pieces::fill;
-use crate::walk::least;
+use crate::pieces::least;
 
 // More than every rank of a child.
 const RANKS: usize = 8192;

@@ -35,8 +35,7 @@ pub fn resolve_address(map: RegionMap, memory_length: u64, address: GuestAddress
     let answer = check_map(map, memory_length);
     if accepts(answer) {
         let root = map.count - 1;
-        let seen = walk(map, root, root_offset(address));
-        let led = seen.answer;
+        let led = walk(map, root, root_offset(address));
         return Resolution::Answered(led);
     }
     Resolution::Refused(answer)

@@ -17,7 +17,7 @@ use Rattle.region_map.proofs.render.render_children.Kinds as render-chi
 use Rattle.region_map.proofs.render.+render+render_children.Lts-render_children as render-children-lts
 use Rattle.region_map.proofs.children.next_child.Reads as next-child-reads
 use Rattle.region_map.proofs.pieces.fill.Reads as fill-reads
-use Rattle.region_map.proofs.walk.least.Reads as least-reads
+use Rattle.region_map.proofs.pieces.least.Reads as least-reads
 use Rattle.region_map.proofs.render.+render+render_children.{statement}
 use Rattle.region_map.proofs.render.+render+render_children.Tie.{close}
 

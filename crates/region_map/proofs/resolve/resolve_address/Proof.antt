@@ -33,7 +33,7 @@ walk-requires c κs = (accepted-walkable _ _ (ok (c .before .before)), omega (ar
 
 returns : tie.Need-returns
 unfolding walkRoot
-returns c = led _ _ _ _ (ok (c .before .before .before)) (c .walk .ensures .answer ∙ ap (walkRoot _) (c .before .root-offset .ensures))
+returns c = led _ _ _ _ (ok (c .before .before .before)) (c .walk .ensures ∙ ap (walkRoot _) (c .before .root-offset .ensures))
 
 returns-2 : tie.Need-returns-2
 returns-2 c = not-led _ _ _ _ (c .before .before .check-map .ensures) (sym (c .before .accepts .ensures) ∙ c .if1 .left)

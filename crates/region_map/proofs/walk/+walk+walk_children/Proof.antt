@@ -1,7 +1,7 @@
 -- `region_map::walk::walk` and `walk_children` meet their contracts, as one cycle of calls: the measure is the region number and the children left. Assumes nothing.
-use mathlib.Core.Path.{_≡_, refl}
+use mathlib.Core.Path.{sym, _∙_}
 use native.Mathlib.Omega.{arith}
-use Rattle.region_map.proofs.WalkLaws.{to-next, to-child, is-child, child-below, child-sees, child-later, own-nothing, own-self, sees-rest, sees-first, sees-within, sees-later, walk-past, walk-alias, walk-inside}
+use Rattle.region_map.proofs.WalkLaws.{child-below, past, child-at, child-before, own-is, own-none, walk-alias, walk-inside, is-child, tried-none, tried-next}
 use borrow.Author.Needs.{needs}
 use Prim.Native.Nat.{ℕ, _+_, _*_, _<_}
 use borrow.Fn.Kinds.{In}
@@ -12,7 +12,6 @@ use Rattle.region_map.proofs.walk.+walk+walk_children.Lts-walk_children
 use Rattle.region_map.proofs.walk.walk.Reads as walk
 use Rattle.region_map.proofs.walk.walk.Kinds as walk-kinds
 use Rattle.region_map.proofs.walk.+walk+walk_children.Lts-walk as walk-lts
-use Rattle.region_map.proofs.walk.least.Reads as least-reads
 use Rattle.region_map.proofs.children.next_child.Reads as next-child-reads
 use Rattle.region_map.proofs.walk.+walk+walk_children.{statement}
 use Rattle.region_map.proofs.walk.+walk+walk_children.Tie.{close}
@@ -43,10 +42,10 @@ walk-below t = and 0 walk-kinds.ps (falls 0 walk-kinds.ps _<_ μ-walk t) walk.Pr
 
 -- what the two members' calls ask and give below the measure t
 abbrev children-calls : ℕ → walk-children-lts.Claims
-children-calls t = (next-child-reads.Asked, next-child-reads.Learnt, walk-children-below t, walk-children.Post, least-reads.Asked, least-reads.Learnt, walk-below t, walk.Post)
+children-calls t = (next-child-reads.Asked, next-child-reads.Learnt, walk-children-below t, walk-children.Post, walk-below t, walk.Post)
 
 abbrev walk-calls : ℕ → walk-lts.Claims
-walk-calls t = (walk-below t, walk.Post, least-reads.Asked, least-reads.Learnt, walk-children-below t, walk-children.Post)
+walk-calls t = (walk-below t, walk.Post, walk-children-below t, walk-children.Post)
 
 walk-children-next-child-requires : (t : ℕ) → walk-children-lts.Need-next-child-requires (children-calls t) (walk-children-at t) walk-children.Post
 walk-children-next-child-requires t c κs = search needs
@@ -59,19 +58,13 @@ walk-children-element-copy-out-kind t c = search needs
 
 walk-children-returns : (t : ℕ) → walk-children-lts.Need-returns (children-calls t) (walk-children-at t) walk-children.Post
 walk-children-returns t c =
-    let s = c .before .before .before in
-    let a = s .args in
-    let nc = c .before .before .next-child .ensures in
-    to-next (a .t1) _ (a .n) (a .below) _ (a .at .0) _ nc
-    (rw (c .before .if1 .taken) (own-nothing (a .t1) _ (a .n) (a .at .0) _ (c .if2 .taken) (omega arith)))
+    let a = c .before .before .before .args in
+    sym (tried-none (a .t1) _ (a .n) (a .below) _ (c .before .before .next-child .ensures) (c .before .if1 .taken) (a .at .0) ∙ own-none (a .t1) (a .n) (c .if2 .taken) (a .at .0))
 
 walk-children-returns-2 : (t : ℕ) → walk-children-lts.Need-returns-2 (children-calls t) (walk-children-at t) walk-children.Post
 walk-children-returns-2 t c =
-    let s = c .before .before .before in
-    let a = s .args in
-    let nc = c .before .before .next-child .ensures in
-    to-next (a .t1) _ (a .n) (a .below) _ (a .at .0) _ nc
-    (rw (c .before .if1 .taken) (own-self (a .t1) _ (a .n) (a .at .0) _ (c .if2 .left) (omega arith)))
+    let a = c .before .before .before .args in
+    sym (tried-none (a .t1) _ (a .n) (a .below) _ (c .before .before .next-child .ensures) (c .before .if1 .taken) (a .at .0) ∙ own-is (a .t1) (a .n) (c .if2 .left) (a .at .0))
 
 walk-children-sub-left : (t : ℕ) → walk-children-lts.Need-sub-left (children-calls t) (walk-children-at t) walk-children.Post
 walk-children-sub-left t c = search needs
@@ -87,22 +80,13 @@ walk-children-walk-children-requires t c κs =
     let s = c .before .before .before in
     (omega arith, (s .pre .1 .0, s .pre .1 .1, omega arith))
 
-walk-children-sub-least : (t : ℕ) → walk-children-lts.Need-sub-least (children-calls t) (walk-children-at t) walk-children.Post
-walk-children-sub-least t c = search needs
-
-walk-children-least-requires : (t : ℕ) → walk-children-lts.Need-least-requires (children-calls t) (walk-children-at t) walk-children.Post
-walk-children-least-requires t c κs = search needs
-
 walk-children-returns-3 : (t : ℕ) → walk-children-lts.Need-returns-3 (children-calls t) (walk-children-at t) walk-children.Post
 walk-children-returns-3 t c =
-    let e = c .before .before .before in
+    let e = c .before .before in
     let a = e .before .before .args in
     let nc = e .before .next-child .ensures in
     let k = is-child (a .t1) (a .n) (a .below) _ nc (e .if1 .left) in
-    let l = c .least .ensures in
-    to-child (a .t1) _ (a .n) (a .below) _ (a .at .0) _ nc (e .if1 .left)
-    (sees-rest (c .least .result) (child-later (a .t1) (a .n) _ (a .at .0) k (c .before .before .if3 .taken)) refl (c .before .walk-children .ensures)
-    (l .1) (l .0) (l .2 (c .before .walk-children .ensures .some) (omega arith)))
+    rw (tried-next (a .t1) _ (a .n) (a .below) _ nc (e .if1 .left) (a .at .0), child-before (a .t1) (a .n) _ k (a .at .0) (c .before .if3 .taken)) (c .walk-children .ensures)
 
 walk-children-walk-requires : (t : ℕ) → walk-children-lts.Need-walk-requires (children-calls t) (walk-children-at t) walk-children.Post
 walk-children-walk-requires t c κs =
@@ -123,32 +107,23 @@ walk-children-walk-children-requires-2 t c κs =
     let s = c .before .before .before .before .before .before in
     (omega (arith, c .before .before .before .before .before, c .before .before .before .before), (s .pre .1 .0, s .pre .1 .1, omega (arith, c .before .before .before .before .before)))
 
-walk-children-least-requires-2 : (t : ℕ) → walk-children-lts.Need-least-requires-2 (children-calls t) (walk-children-at t) walk-children.Post
-walk-children-least-requires-2 t c κs = search needs
-
 walk-children-returns-4 : (t : ℕ) → walk-children-lts.Need-returns-4 (children-calls t) (walk-children-at t) walk-children.Post
 walk-children-returns-4 t c =
     let w = c .before .before in
     let e = w .before .before in
-    let s = e .before .before in
-    let a = s .args in
+    let a = e .before .before .args in
     let nc = e .before .next-child .ensures in
     let k = is-child (a .t1) (a .n) (a .below) _ nc (e .if1 .left) in
-    to-child (a .t1) _ (a .n) (a .below) _ (a .at .0) _ nc (e .if1 .left)
-    (sees-first _ _ _ (child-sees (a .t1) (a .n) _ (a .at .0) _ k (w .before .if3 .left) (w .walk .ensures)) (c .enum-told .given .1))
+    rw (tried-next (a .t1) _ (a .n) (a .below) _ nc (e .if1 .left) (a .at .0), child-at (a .t1) (a .n) _ k (a .at .0) (w .before .if3 .left), ← w .walk .ensures, c .enum-told .given .1)
 
 walk-children-returns-5 : (t : ℕ) → walk-children-lts.Need-returns-5 (children-calls t) (walk-children-at t) walk-children.Post
 walk-children-returns-5 t c =
-    let w = c .before .before .before .before in
+    let w = c .before .before .before in
     let e = w .before .before in
-    let s = e .before .before in
-    let a = s .args in
+    let a = e .before .before .args in
     let nc = e .before .next-child .ensures in
     let k = is-child (a .t1) (a .n) (a .below) _ nc (e .if1 .left) in
-    let l = c .least2 .ensures in
-    to-child (a .t1) _ (a .n) (a .below) _ (a .at .0) _ nc (e .if1 .left)
-    (sees-rest (c .least2 .result) (child-sees (a .t1) (a .n) _ (a .at .0) _ k (w .before .if3 .left) (w .walk .ensures)) (c .before .before .enum-told2 .given .1)
-    (c .before .walk-children2 .ensures) (l .0) (l .1) (l .2 (w .walk .ensures .some) (c .before .walk-children2 .ensures .some)))
+    rw (tried-next (a .t1) _ (a .n) (a .below) _ nc (e .if1 .left) (a .at .0), child-at (a .t1) (a .n) _ k (a .at .0) (w .before .if3 .left), ← w .walk .ensures, c .before .enum-told2 .given .1) (c .walk-children2 .ensures)
 
 walk-mul-size : (t : ℕ) → walk-lts.Need-mul-size (walk-calls t) (walk-at t) walk.Post
 walk-mul-size t c = search needs
@@ -157,8 +132,7 @@ walk-element-copy-out-size : (t : ℕ) → walk-lts.Need-element-copy-out-size (
 walk-element-copy-out-size t c = search needs
 
 walk-returns : (t : ℕ) → walk-lts.Need-returns (walk-calls t) (walk-at t) walk.Post
-walk-returns t c =
-    walk-past (c .before .args .t1) (c .before .args .n) (c .before .args .at .0) _ (c .if1 .taken) (omega arith)
+walk-returns t c = sym (past (c .before .args .t1) (c .before .args .n) (c .before .args .at .0) (c .if1 .taken))
 
 walk-mul-kind : (t : ℕ) → walk-lts.Need-mul-kind (walk-calls t) (walk-at t) walk.Post
 walk-mul-kind t c = search needs
@@ -178,8 +152,8 @@ walk-mul-skipped t c = search needs
 walk-element-copy-out-skipped : (t : ℕ) → walk-lts.Need-element-copy-out-skipped (walk-calls t) (walk-at t) walk.Post
 walk-element-copy-out-skipped t c = search needs
 
-walk-add-t28 : (t : ℕ) → walk-lts.Need-add-t28 (walk-calls t) (walk-at t) walk.Post
-walk-add-t28 t c =
+walk-add-t22 : (t : ℕ) → walk-lts.Need-add-t22 (walk-calls t) (walk-at t) walk.Post
+walk-add-t22 t c =
     let a = c .before .before .args in
     let s = c .before .before .pre .1 .0 in
     omega (arith, s .sizes (a .n) (c .before .before .pre .1 .1), s .aliases (a .n) (c .before .before .pre .1 .1))
@@ -191,38 +165,19 @@ walk-walk-requires t c κs =
     let h = s .targets (a .n) (c .before .before .pre .1 .1) (c .if2 .taken) in
     (omega arith, (s, omega arith))
 
-walk-sub-least : (t : ℕ) → walk-lts.Need-sub-least (walk-calls t) (walk-at t) walk.Post
-walk-sub-least t c = search needs
-
-walk-least-requires : (t : ℕ) → walk-lts.Need-least-requires (walk-calls t) (walk-at t) walk.Post
-walk-least-requires t c κs = search needs
-
 walk-walk-children-requires : (t : ℕ) → walk-lts.Need-walk-children-requires (walk-calls t) (walk-at t) walk.Post
 walk-walk-children-requires t c κs = search needs
 
-walk-sub-least-2 : (t : ℕ) → walk-lts.Need-sub-least-2 (walk-calls t) (walk-at t) walk.Post
-walk-sub-least-2 t c = search needs
-
-walk-least-requires-2 : (t : ℕ) → walk-lts.Need-least-requires-2 (walk-calls t) (walk-at t) walk.Post
-walk-least-requires-2 t c κs = search needs
-
 walk-returns-2 : (t : ℕ) → walk-lts.Need-returns-2 (walk-calls t) (walk-at t) walk.Post
 walk-returns-2 t c =
-    let s = c .before .before .before .before in
+    let s = c .before .before .before in
     let a = s .args in
-    let l = c .least .ensures in
-    let seen = c .before .walk .ensures in
-    sees-within _ (c .least .result) (walk-alias (a .t1) (s .pre .1 .0) (a .n) (s .pre .1 .1) (c .before .before .if2 .taken))
-    (sees-later _ seen) (c .before .before .before .if1 .left) (l .0) (l .1) (l .2 (seen .some) (omega arith))
+    c .walk .ensures ∙ sym (walk-alias (a .t1) (s .pre .1 .0) (a .n) (s .pre .1 .1) (c .before .if2 .taken) (a .at .0) (c .before .before .if1 .left))
 
 walk-returns-3 : (t : ℕ) → walk-lts.Need-returns-3 (walk-calls t) (walk-at t) walk.Post
 walk-returns-3 t c =
-    let s = c .before .before .before .before in
-    let a = s .args in
-    let l = c .least2 .ensures in
-    let seen = c .before .walk-children .ensures in
-    sees-within _ (c .least2 .result) (walk-inside (a .t1) (a .n) (c .before .before .if2 .left))
-    seen (c .before .before .before .if1 .left) (l .0) (l .1) (l .2 (seen .some) (omega arith))
+    let a = c .before .before .before .args in
+    c .walk-children .ensures ∙ sym (walk-inside (a .t1) (a .n) (c .before .if2 .left) (a .at .0) (c .before .before .if1 .left))
 
 pub +walk+walk-children-spec : {M : Type 1} → statement M
 +walk+walk-children-spec = close μ-walk μ-walk-children (λ t. walk-lts.spec (walk-calls t)
@@ -237,14 +192,10 @@ pub +walk+walk-children-spec : {M : Type 1} → statement M
     (walk-element-copy-out-target t)
     (walk-mul-skipped t)
     (walk-element-copy-out-skipped t)
-    (walk-add-t28 t)
+    (walk-add-t22 t)
     (walk-walk-requires t)
-    (walk-sub-least t)
-    (walk-least-requires t)
-    (walk-walk-children-requires t)
-    (walk-sub-least-2 t)
-    (walk-least-requires-2 t)
     (walk-returns-2 t)
+    (walk-walk-children-requires t)
     (walk-returns-3 t))
     λ t. walk-children-lts.spec (children-calls t)
     (walk-children-at t)
@@ -258,13 +209,10 @@ pub +walk+walk-children-spec : {M : Type 1} → statement M
     (walk-children-mul-offset t)
     (walk-children-element-copy-out-offset t)
     (walk-children-walk-children-requires t)
-    (walk-children-sub-least t)
-    (walk-children-least-requires t)
     (walk-children-returns-3 t)
     (walk-children-walk-requires t)
     (walk-children-enum-told t)
     (walk-children-enum-told-2 t)
     (walk-children-walk-children-requires-2 t)
-    (walk-children-least-requires-2 t)
     (walk-children-returns-4 t)
     (walk-children-returns-5 t)
