@@ -340,6 +340,7 @@ fn random_map(r: &mut Rng) -> (Vec<Node>, u64) {
         0 | 1 => stripes(r),
         2 => ladder(r),
         3 => tower(r),
+        4 => slices(r),
         _ => plain_map(r),
     }
 }
@@ -620,8 +621,9 @@ fn tower(r: &mut Rng) -> (Vec<Node>, u64) {
     nodes.iter_mut().for_each(|leaf| leaf.parent = bottom);
     nodes.push(Node { kind: CONTAINER, size: unit * (10 + r.below(30)), ..Node::default() });
     let ways = 2 + r.below(3);
-    let shift = unit * r.below(4);
-    for _ in 0..1 + r.below(5) {
+    let mut shift = unit * r.below(4);
+    let (levels, grows) = if r.one_in(6) { (8, true) } else { (1 + r.below(5), r.one_in(3)) };
+    for _ in 0..levels {
         let below = nodes.len();
         if below as u64 + ways > 32 {
             break;
@@ -645,8 +647,52 @@ fn tower(r: &mut Rng) -> (Vec<Node>, u64) {
         }
         let kind = CONTAINER;
         nodes.push(Node { kind, size: size + ways * shift + unit * r.below(2), ..Node::default() });
+        if grows {
+            shift *= ways;
+        }
     }
     (nodes, memory_length)
+}
+
+/// A region in slices that join again, shown twice as often on each level: more pieces than runs, past 256
+/// of either.
+fn slices(r: &mut Rng) -> (Vec<Node>, u64) {
+    let unit = r.pick(&[1, 3, 4096]);
+    let count = 1 + r.below(5);
+    let mut nodes = vec![Node { kind: RAM, size: unit * count, ..Node::default() }];
+    for i in 0..count {
+        let gap = if r.one_in(8) { unit } else { 0 };
+        nodes.push(Node {
+            kind: ALIAS,
+            parent: count + 2,
+            offset: unit * i + gap,
+            size: unit - gap.min(unit - 1),
+            priority: r.pick(&[0, 0, 200 + i]),
+            target: 0,
+            alias_offset: unit * i,
+            ..Node::default()
+        });
+    }
+    let mut size = unit * count + if r.one_in(2) { unit } else { 0 };
+    nodes.push(Node { kind: CONTAINER, size, ..Node::default() });
+    for _ in 0..r.below(10) {
+        let below = nodes.len();
+        if below + 2 > 32 {
+            break;
+        }
+        nodes[below - 1].parent = below as u64 + 2;
+        nodes.push(Node {
+            kind: ALIAS,
+            parent: below as u64 + 2,
+            offset: size,
+            size,
+            target: below as u64 - 1,
+            ..Node::default()
+        });
+        size *= 2;
+        nodes.push(Node { kind: CONTAINER, size, ..Node::default() });
+    }
+    (nodes, unit * count)
 }
 
 /// Breaks a map in one to three places.

@@ -21,7 +21,7 @@ use region_map::view::empty_view;
 use virtqueue::queue::SplitQueue;
 use virtqueue::step::StepOutcome;
 use virtqueue::step::Stepped;
-use virtqueue::step::step;
+use virtqueue::step::step_with;
 
 fn show_outcome(outcome: StepOutcome) {
     match outcome {
@@ -52,7 +52,7 @@ fn case(
     also: u64,
 ) {
     let mut after = before;
-    let s = step(view, device, queue, &mut after);
+    let s = step_with(view, device, queue, &mut after);
     let outcome = s.outcome;
     decimal(number);
     show_outcome(outcome);
@@ -369,9 +369,9 @@ fn step_short(
     length: usize,
 ) -> Stepped {
     if length <= mem.len() {
-        return step(view, device, queue, &mut mem[0..length]);
+        return step_with(view, device, queue, &mut mem[0..length]);
     }
-    step(view, device, queue, mem)
+    step_with(view, device, queue, mem)
 }
 
 // A memory of 256 bytes that holds all, the response last; one byte less is refused with 27.

@@ -19,6 +19,7 @@ use virtqueue::route::route;
 use virtqueue::route::route_without_device;
 use virtqueue::view::LookUp;
 use virtqueue::view::look_up;
+use virtqueue::view::words_of;
 
 fn routed(answer: RouteAnswer) {
     match answer {
@@ -60,14 +61,15 @@ fn looked_up(found: LookUp) {
 
 // An access with a device, without, and the look-up of its first byte.
 fn access(view: FlatView, device: MemoryDevice, number: u64, a: u64, width: u64) {
+    let words = words_of(view);
     word(b"route ");
     decimal(number);
     word(b":");
-    routed(route(view, LENGTH, device, GuestAddress(a), width));
+    routed(route(&words, LENGTH, device, GuestAddress(a), width));
     word(b",");
-    routed(route_without_device(view, LENGTH, GuestAddress(a), width));
+    routed(route_without_device(&words, LENGTH, GuestAddress(a), width));
     word(b",");
-    looked_up(look_up(view, LENGTH, GuestAddress(a)));
+    looked_up(look_up(&words, LENGTH, GuestAddress(a)));
     word(b"\n");
 }
 

@@ -15,6 +15,7 @@ use region_map::view::FlatView;
 use virtqueue::queue::SplitQueue;
 use virtqueue::run::RunEnd;
 use virtqueue::run::run_steps;
+use virtqueue::view::words_of;
 
 fn show_end(end: RunEnd) {
     match end {
@@ -40,7 +41,8 @@ fn case(
     k: u64,
 ) {
     let mut after = before;
-    let r = run_steps(view, device, queue, &mut after, k);
+    let words = words_of(view);
+    let r = run_steps(&words, device, queue, &mut after, k);
     let end = r.end;
     word(b"run ");
     decimal(number);

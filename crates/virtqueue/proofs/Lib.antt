@@ -13,6 +13,9 @@ pub mod RuleLaws
 pub mod RunLaws
 pub mod RunSteps
 pub mod StepLaws
+mod StretchLaws
 pub mod TakeLaws
 pub mod TreeLaws
+pub mod ViewWords
+pub mod WordLaws
 pub mod Worked

@@ -15,6 +15,7 @@ use Rattle.memory_device.specs.Device.{noBlocks}
 use Rattle.memory_device.specs.declared.device.MemoryDevice.{MemoryDevice}
 use Rattle.virtqueue.specs.Guest.{Leaf, nowhere, leaf, leafIn, leafAt, reachKind, Guest, placeLeaf, byteAt, addresses}
 use Rattle.virtqueue.specs.View.{agree}
+use Rattle.virtqueue.specs.Words.{viewOf}
 use Rattle.virtqueue.specs.Queue.{usedEntry, usedIdx}
 use Rattle.virtqueue.specs.Chain.{Chain, endOf, isWritable}
 use Rattle.virtqueue.specs.Step.{Offer, stop, idle, ready, requestBytes, responsePlaces}
@@ -46,6 +47,11 @@ pub record Ordered (v : FlatView) : Type 0 where
   pub kind : (k : ℕ) → k < v .count → (rangeOf v k .kind ≡ mmio → ⊥) → memoryKind (rangeOf v k .kind) ≡ true
   pub kinds : (j k : ℕ) → j < v .count → k < v .count → rangeOf v j .region ≡ rangeOf v k .region → rangeOf v j .kind ≡ rangeOf v k .kind
 
+-- the words of such a view
+pub record Judged (w : List ℕ) : Type 0 where
+  pub words : length w ≡ 1537
+  pub ordered : Ordered (viewOf w)
+
 -- each range of such a kind lies in a memory of this length
 pub record Backed (v : FlatView) (memory : ℕ) : Type 0 where
   pub room : (k : ℕ) → k < v .count → memoryKind (rangeOf v k .kind) ≡ true → rangeOf v k .base + lastOffset (rangeOf v k) < memory
@@ -64,6 +70,10 @@ pub record InMemory (v : FlatView) (a n : ℕ) : Type 0 where
 
 abbrev pub placeIn : FlatView → ℕ → ℕ
 placeIn v a = placeLeaf (leafAt (entries v) a)
+
+-- bytes side by side in the memory: that at an address, and as many after it as `left` says
+pub record Runs (v : FlatView) (a place left : ℕ) : Type 0 where
+  pub each : (i : ℕ) → i ≤ left → placeIn v (a + i) ≡ place + i
 
 -- how far the bytes of a node of a kind are reachable from an offset on, s more bytes following it
 abbrev pub Extends : (ℕ → Bool) → ℕ → ℕ → ℕ → Extent → Type 0

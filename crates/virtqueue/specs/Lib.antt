@@ -1,5 +1,6 @@
 pub mod Guest
 pub mod View
+pub mod Words
 pub mod Route
 pub mod Queue
 pub mod Chain

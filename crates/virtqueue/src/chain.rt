@@ -2,16 +2,17 @@
 ghost use mathlib.Core.Path.{_≡_};
 ghost use Prim.Native.Nat.{_+_, _≤_, _<_, min};
 ghost use lib.ListN.{length};
+ghost use Rattle.virtqueue.specs.Words.{viewOf};
 ghost use Rattle.virtqueue.specs.Guest.{byView};
 ghost use Rattle.virtqueue.specs.Chain.{hasNext, isWritable, misplaced, descriptorAt, fetched, chainAt};
-ghost use Rattle.virtqueue.specs.Contracts.{Ordered, Backed, InMemory, placeIn, Gathers, Small, added};
+ghost use Rattle.virtqueue.specs.Contracts.{Judged, Backed, InMemory, placeIn, Gathers, Small, added};
+use crate::find::near;
 use crate::memory::copy_bytes;
 use crate::memory::copy_places;
 use crate::memory::read_number;
 use crate::reach::reaches;
 use memory_device::device::MemoryDevice;
 use region_map::map::GuestAddress;
-use region_map::view::FlatView;
 
 // VIRTIO's descriptor: an element of a chain, with flags and the next entry's number.
 pub struct Descriptor {
@@ -57,17 +58,17 @@ fn is_misplaced(late: bool, d: Descriptor) -> bool
 }
 
 // The descriptor in the sixteen bytes at an address.
-fn descriptor_at(view: FlatView, mem: &[u8], at: GuestAddress) -> Descriptor
-    requires { ⌜ Ordered view ⌝ }
-    requires { ⌜ Backed view (length (now mem)) ⌝ }
-    requires { ⌜ InMemory view (at .0) 16 ⌝ }
+fn descriptor_at(view: &[u64], mem: &[u8], hint: usize, at: GuestAddress) -> Descriptor
+    requires { ⌜ Judged (now view) ⌝ }
+    requires { ⌜ Backed (viewOf (now view)) (length (now mem)) ⌝ }
+    requires { ⌜ InMemory (viewOf (now view)) (at .0) 16 ⌝ }
     requires { ⌜ at .0 + 16 ≤ 18446744073709551615 ⌝ }
-    ensures { λ r. ⌜ (r ≡ descriptorAt (placeIn view) (now (mem .entry)) (at .0)) × Small r ⌝ }
+    ensures { λ r. ⌜ (r ≡ descriptorAt (placeIn (viewOf (now (view .entry)))) (now (mem .entry)) (at .0)) × Small r ⌝ }
 {
-    let addr = read_number(view, mem, at, 8);
-    let length = read_number(view, mem, GuestAddress(at.0 + 8), 4);
-    let flags = read_number(view, mem, GuestAddress(at.0 + 12), 2);
-    let next = read_number(view, mem, GuestAddress(at.0 + 14), 2);
+    let addr = read_number(view, mem, hint, at, 8);
+    let length = read_number(view, mem, hint, GuestAddress(at.0 + 8), 4);
+    let flags = read_number(view, mem, hint, GuestAddress(at.0 + 12), 2);
+    let next = read_number(view, mem, hint, GuestAddress(at.0 + 14), 2);
     Descriptor {
         addr: GuestAddress(addr),
         length: length,
@@ -77,16 +78,24 @@ fn descriptor_at(view: FlatView, mem: &[u8], at: GuestAddress) -> Descriptor
 }
 
 // Entry i of a table.
-fn fetch(view: FlatView, device: MemoryDevice, mem: &[u8], table: GuestAddress, i: u64) -> Fetched
-    requires { ⌜ Ordered view ⌝ }
-    requires { ⌜ Backed view (length (now mem)) ⌝ }
+fn fetch(
+    view: &[u64],
+    device: MemoryDevice,
+    mem: &[u8],
+    table: GuestAddress,
+    i: u64,
+    hint: usize,
+) -> Fetched
+    requires { ⌜ Judged (now view) ⌝ }
+    requires { ⌜ Backed (viewOf (now view)) (length (now mem)) ⌝ }
     requires { ⌜ 0 < device .«block_size» ⌝ }
     requires { ⌜ (table .0 ≤ 281474976710656) × (i < 65536) ⌝ }
-    ensures { λ r. ⌜ r ≡ fetched (byView view device) (now (mem .entry)) (table .0) i ⌝ }
+    ensures { λ r. ⌜ r ≡ fetched (byView (viewOf (now (view .entry))) device) (now (mem .entry)) (table .0) i ⌝ }
 {
     let at = GuestAddress(table.0 + 16 * i);
-    if reaches(view, device, at, 16) {
-        let d = descriptor_at(view, mem, at);
+    let here = near(view, hint, at);
+    if reaches(view, device, here, at, 16) {
+        let d = descriptor_at(view, mem, here, at);
         return Fetched::Here(d);
     }
     Fetched::Out
@@ -99,18 +108,18 @@ fn smaller(a: usize, b: u64) -> usize
 }
 
 // What an accepted element adds.
-fn add_element(view: FlatView, mem: &[u8], so_far: Gathered, d: Descriptor) -> Gathered
-    requires { ⌜ Ordered view ⌝ }
-    requires { ⌜ Backed view (length (now mem)) ⌝ }
-    requires { ⌜ InMemory view (d .addr .0) (d .length) ⌝ }
+fn add_element(view: &[u64], mem: &[u8], hint: usize, so_far: Gathered, d: Descriptor) -> Gathered
+    requires { ⌜ Judged (now view) ⌝ }
+    requires { ⌜ Backed (viewOf (now view)) (length (now mem)) ⌝ }
+    requires { ⌜ InMemory (viewOf (now view)) (d .addr .0) (d .length) ⌝ }
     requires { ⌜ («so_far» .readable ≤ 24) × («so_far» .writable ≤ 10) ⌝ }
-    ensures { λ r. ⌜ r ≡ added (placeIn view) (now (mem .entry)) «so_far» d ⌝ }
+    ensures { λ r. ⌜ r ≡ added (placeIn (viewOf (now (view .entry)))) (now (mem .entry)) «so_far» d ⌝ }
 {
     let request = so_far.request;
     let places = so_far.places;
     if is_writable(d) {
         let count = smaller(10 - so_far.writable, d.length);
-        let more = copy_places(view, places, so_far.writable, d.addr, count);
+        let more = copy_places(view, hint, places, so_far.writable, d.addr, count);
         return Gathered {
             stop: so_far.stop,
             request: request,
@@ -120,7 +129,7 @@ fn add_element(view: FlatView, mem: &[u8], so_far: Gathered, d: Descriptor) -> G
         };
     }
     let count = smaller(24 - so_far.readable, d.length);
-    let more = copy_bytes(view, mem, request, so_far.readable, d.addr, count);
+    let more = copy_bytes(view, mem, hint, request, so_far.readable, d.addr, count);
     Gathered {
         stop: so_far.stop,
         request: more,
@@ -141,18 +150,19 @@ fn ended(so_far: Gathered, stop: u8) -> Gathered
 
 // The chain that starts at a head: per descriptor 17, INDIRECT, readable late, 21, next or length.
 pub fn gather(
-    view: FlatView,
+    view: &[u64],
     device: MemoryDevice,
     mem: &[u8],
     table: GuestAddress,
     size: u64,
     head: u64,
+    hint: usize,
 ) -> Gathered
-    requires { ⌜ Ordered view ⌝ }
-    requires { ⌜ Backed view (length (now mem)) ⌝ }
+    requires { ⌜ Judged (now view) ⌝ }
+    requires { ⌜ Backed (viewOf (now view)) (length (now mem)) ⌝ }
     requires { ⌜ 0 < device .«block_size» ⌝ }
     requires { ⌜ (table .0 ≤ 281474976710656) × (size ≤ 256) × (head < size) ⌝ }
-    ensures { λ r. ⌜ Gathers (placeIn view) (now (mem .entry)) (chainAt (byView view device) (now (mem .entry)) (table .0) size head) r ⌝ }
+    ensures { λ r. ⌜ Gathers (placeIn (viewOf (now (view .entry)))) (now (mem .entry)) (chainAt (byView (viewOf (now (view .entry))) device) (now (mem .entry)) (table .0) size head) r ⌝ }
 {
     let mut so_far = Gathered {
         stop: 0,
@@ -165,7 +175,7 @@ pub fn gather(
     let mut late = false;
     let mut left = size;
     while 0 < left {
-        match fetch(view, device, mem, table, i) {
+        match fetch(view, device, mem, table, i, hint) {
             Fetched::Out => {
                 return ended(so_far, 17);
             }
@@ -173,10 +183,11 @@ pub fn gather(
                 if is_misplaced(late, d) {
                     return ended(so_far, 20);
                 }
-                if !reaches(view, device, d.addr, d.length) {
+                let there = near(view, hint, d.addr);
+                if !reaches(view, device, there, d.addr, d.length) {
                     return ended(so_far, 21);
                 }
-                so_far = add_element(view, mem, so_far, d);
+                so_far = add_element(view, mem, there, so_far, d);
                 if !has_next(d) {
                     return so_far;
                 }

@@ -1,41 +1,45 @@
 // The search for the range that holds an address.
-ghost use Rattle.virtqueue.specs.Contracts.{Ordered, Spot};
+ghost use Rattle.virtqueue.specs.Words.{viewOf};
+ghost use Rattle.virtqueue.specs.Contracts.{Judged, Spot};
+use crate::words::count_of;
+use crate::words::range_at;
 use region_map::map::GuestAddress;
-use region_map::view::FlatView;
 
 // By halving.
-fn search(view: FlatView, a: GuestAddress) -> usize
-    requires { ⌜ Ordered view ⌝ }
-    ensures { λ r. ⌜ Spot view (a .0) r ⌝ }
+fn search(view: &[u64], a: GuestAddress) -> usize
+    requires { ⌜ Judged (now view) ⌝ }
+    ensures { λ r. ⌜ Spot (viewOf (now (view .entry))) (a .0) r ⌝ }
 {
     let mut low: usize = 0;
-    let mut high = view.count;
+    let count = count_of(view);
+    let mut high = count;
     while low < high {
         let middle = low + (high - low) / 2;
-        let range = view.ranges[middle];
+        let range = range_at(view, middle);
         if range.last.0 < a.0 {
             low = middle + 1;
         } else {
             high = middle;
         }
     }
-    if view.count <= low {
-        return view.count;
+    if count <= low {
+        return count;
     }
-    let range = view.ranges[low];
+    let range = range_at(view, low);
     if a.0 < range.first.0 {
-        return view.count;
+        return count;
     }
     low
 }
 
 // The hint's range first: bytes of one access or element mostly lie in one range.
-pub fn near(view: FlatView, hint: usize, a: GuestAddress) -> usize
-    requires { ⌜ Ordered view ⌝ }
-    ensures { λ r. ⌜ Spot view (a .0) r ⌝ }
+pub fn near(view: &[u64], hint: usize, a: GuestAddress) -> usize
+    requires { ⌜ Judged (now view) ⌝ }
+    ensures { λ r. ⌜ Spot (viewOf (now (view .entry))) (a .0) r ⌝ }
 {
-    if hint < view.count {
-        let range = view.ranges[hint];
+    let count = count_of(view);
+    if hint < count {
+        let range = range_at(view, hint);
         if (range.first.0 <= a.0) & (a.0 <= range.last.0) {
             return hint;
         }

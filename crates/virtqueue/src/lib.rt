@@ -13,3 +13,4 @@ pub mod step;
 mod take;
 pub mod thin;
 pub mod view;
+mod words;

@@ -1,16 +1,20 @@
 // Reach: an element's bytes, range by range and block by block.
 ghost use mathlib.Core.Path.{_≡_};
+ghost use mathlib.Core.Bool.{true};
+ghost use Rattle.memory_device.specs.declared.device.MemoryDevice.{MemoryDevice};
 ghost use Prim.Native.Nat.{_<_};
 ghost use Rattle.memory_device.specs.Host.{pluggedAt};
+ghost use Rattle.virtqueue.specs.Words.{viewOf};
 ghost use Rattle.virtqueue.specs.Guest.{byView, allReach};
-ghost use Rattle.virtqueue.specs.Contracts.{Ordered, Extends};
+ghost use Rattle.virtqueue.specs.Contracts.{Judged, Extends};
 use crate::find::near;
+use crate::words::count_of;
+use crate::words::range_at;
 use memory_device::device::MemoryDevice;
 use region_map::map::GuestAddress;
 use region_map::map::MANAGED;
 use region_map::map::RAM;
 use region_map::map::RegionOffset;
-use region_map::view::FlatView;
 
 // How far bytes are reachable from one on.
 pub enum Extent {
@@ -43,11 +47,26 @@ fn how_far(device: MemoryDevice, kind: u64, offset: u64, span: u64) -> Extent
     Extent::Stop
 }
 
-// Is each of the bytes from an address on reachable? None wraps.
-pub fn reaches(view: FlatView, device: MemoryDevice, addr: GuestAddress, length: u64) -> bool
-    requires { ⌜ Ordered view ⌝ }
+// Do the bytes lie in the hint's range, and is it RAM? Most do.
+fn in_ram(view: &[u64], hint: usize, addr: GuestAddress, length: u64) -> bool
+    requires { ⌜ Judged (now view) ⌝ }
+    ensures { λ r. ⌜ (r ≡ true → (device : MemoryDevice) → allReach (byView (viewOf (now (view .entry))) device .reach) (addr .0) length ≡ true) ⌝ }
+{
+    if count_of(view) <= hint {
+        return false;
+    }
+    let range = range_at(view, hint);
+    if (range.first.0 <= addr.0) & (addr.0 <= range.last.0) {
+        return (range.kind == RAM) & (length <= range.last.0 - addr.0);
+    }
+    false
+}
+
+// Is each of the bytes from an address on reachable? None wraps. Range by range, block by block.
+fn reaches_far(view: &[u64], device: MemoryDevice, addr: GuestAddress, length: u64) -> bool
+    requires { ⌜ Judged (now view) ⌝ }
     requires { ⌜ 0 < device .«block_size» ⌝ }
-    ensures { λ r. ⌜ r ≡ allReach (byView view device .reach) (addr .0) length ⌝ }
+    ensures { λ r. ⌜ r ≡ allReach (byView (viewOf (now (view .entry))) device .reach) (addr .0) length ⌝ }
 {
     if length == 0 {
         return true;
@@ -55,15 +74,16 @@ pub fn reaches(view: FlatView, device: MemoryDevice, addr: GuestAddress, length:
     if 18446744073709551615 - addr.0 < length - 1 {
         return false;
     }
+    let count = count_of(view);
     let mut done: u64 = 0;
     let mut at: usize = 0;
     while done < length {
         let a = addr.0 + done;
         at = near(view, at, GuestAddress(a));
-        if view.count <= at {
+        if count <= at {
             return false;
         }
-        let range = view.ranges[at];
+        let range = range_at(view, at);
         let offset = range.offset.0 + (a - range.first.0);
         match how_far(device, range.kind, offset, range.last.0 - a) {
             Extent::Stop => {
@@ -78,4 +98,22 @@ pub fn reaches(view: FlatView, device: MemoryDevice, addr: GuestAddress, length:
         }
     }
     true
+}
+
+// The same, with the range to try first.
+pub fn reaches(
+    view: &[u64],
+    device: MemoryDevice,
+    hint: usize,
+    addr: GuestAddress,
+    length: u64,
+) -> bool
+    requires { ⌜ Judged (now view) ⌝ }
+    requires { ⌜ 0 < device .«block_size» ⌝ }
+    ensures { λ r. ⌜ r ≡ allReach (byView (viewOf (now (view .entry))) device .reach) (addr .0) length ⌝ }
+{
+    if in_ram(view, hint, addr, length) {
+        return true;
+    }
+    reaches_far(view, device, addr, length)
 }

@@ -6,18 +6,20 @@ ghost use Rattle.region_map.specs.Flatten.{entries};
 ghost use Rattle.region_map.specs.Reply.{numberOf};
 ghost use Rattle.memory_device.specs.Table.{allBelow};
 ghost use Rattle.memory_device.specs.Host.{pluggedAt};
+ghost use Rattle.virtqueue.specs.Words.{viewOf};
 ghost use Rattle.virtqueue.specs.Guest.{leafAt};
 ghost use Rattle.virtqueue.specs.Route.{widthOk, follows, routed, routedWith, routedWithout, routeReply};
-ghost use Rattle.virtqueue.specs.Contracts.{Ordered, Spot, noDevice};
+ghost use Rattle.virtqueue.specs.Contracts.{Judged, Spot, noDevice};
 use crate::find::near;
 use crate::rules::view_ok;
 use crate::view::NO_REGION;
+use crate::words::count_of;
+use crate::words::range_at;
 use memory_device::device::MemoryDevice;
 use region_map::map::GuestAddress;
 use region_map::map::MANAGED;
 use region_map::map::MMIO;
 use region_map::map::RegionOffset;
-use region_map::view::FlatView;
 
 // A refusal's number, a memory place, or a port and the offset in its region.
 pub enum RouteAnswer {
@@ -33,13 +35,13 @@ fn width_ok(w: u64) -> bool
 }
 
 // Is each later byte the same region at the next offset? In one range it is; else byte by byte.
-fn is_whole(view: FlatView, at: usize, a: GuestAddress, w: u64) -> bool
-    requires { ⌜ Ordered view ⌝ }
-    requires { ⌜ Spot view (a .0) at ⌝ }
-    requires { ⌜ (at < view .count) × (0 < w) × (w ≤ 8) ⌝ }
-    ensures { λ r. ⌜ r ≡ allBelow (λ i. follows (leafAt (entries view) (a .0)) i (leafAt (entries view) (a .0 + i))) w ⌝ }
+fn is_whole(view: &[u64], at: usize, a: GuestAddress, w: u64) -> bool
+    requires { ⌜ Judged (now view) ⌝ }
+    requires { ⌜ Spot (viewOf (now view)) (a .0) at ⌝ }
+    requires { ⌜ (at < (viewOf (now view)) .count) × (0 < w) × (w ≤ 8) ⌝ }
+    ensures { λ r. ⌜ r ≡ allBelow (λ i. follows (leafAt (entries (viewOf (now (view .entry)))) (a .0)) i (leafAt (entries (viewOf (now (view .entry)))) (a .0 + i))) w ⌝ }
 {
-    let range = view.ranges[at];
+    let range = range_at(view, at);
     if w - 1 <= range.last.0 - a.0 {
         return true;
     }
@@ -49,10 +51,10 @@ fn is_whole(view: FlatView, at: usize, a: GuestAddress, w: u64) -> bool
     while i < w {
         let b = a.0 + i;
         here = near(view, here, GuestAddress(b));
-        if view.count <= here {
+        if count_of(view) <= here {
             return false;
         }
-        let other = view.ranges[here];
+        let other = range_at(view, here);
         let there = other.offset.0 + (b - other.first.0);
         if !((other.region == range.region) & (there == offset + i)) {
             return false;
@@ -73,22 +75,22 @@ fn is_plugged(device: MemoryDevice, offset: u64, w: u64) -> bool
 }
 
 // An access over a view that was judged.
-fn route_judged(view: FlatView, device: MemoryDevice, a: GuestAddress, w: u64) -> RouteAnswer
-    requires { ⌜ Ordered view ⌝ }
+fn route_judged(view: &[u64], device: MemoryDevice, a: GuestAddress, w: u64) -> RouteAnswer
+    requires { ⌜ Judged (now view) ⌝ }
     requires { ⌜ 8 ≤ device .«block_size» ⌝ }
-    ensures { λ r. ⌜ r ≡ routed (leafAt (entries view)) (pluggedAt device) (a .0) w ⌝ }
+    ensures { λ r. ⌜ r ≡ routed (leafAt (entries (viewOf (now (view .entry))))) (pluggedAt device) (a .0) w ⌝ }
 {
     if !width_ok(w) {
         return RouteAnswer::Refused(23);
     }
     let at = near(view, 0, a);
-    if view.count <= at {
+    if count_of(view) <= at {
         return RouteAnswer::Refused(24);
     }
     if !is_whole(view, at, a, w) {
         return RouteAnswer::Refused(25);
     }
-    let range = view.ranges[at];
+    let range = range_at(view, at);
     let offset = range.offset.0 + (a.0 - range.first.0);
     if range.kind == MMIO {
         return RouteAnswer::Port(range.base, RegionOffset(offset));
@@ -118,13 +120,13 @@ fn no_device() -> MemoryDevice
 
 // An access with a device.
 pub fn route(
-    view: FlatView,
+    view: &[u64],
     memory_length: u64,
     device: MemoryDevice,
     address: GuestAddress,
     width: u64,
 ) -> RouteAnswer
-    ensures { λ r. ⌜ r ≡ routedWith view «memory_length» device (address .0) width ⌝ }
+    ensures { λ r. ⌜ r ≡ routedWith (viewOf (now (view .entry))) «memory_length» device (address .0) width ⌝ }
 {
     if view_ok(view, memory_length, device.region_size) & device.keeps_rules() {
         return route_judged(view, device, address, width);
@@ -134,12 +136,12 @@ pub fn route(
 
 // An access without one: every block counts as unplugged, and 27 judges no region.
 pub fn route_without_device(
-    view: FlatView,
+    view: &[u64],
     memory_length: u64,
     address: GuestAddress,
     width: u64,
 ) -> RouteAnswer
-    ensures { λ r. ⌜ r ≡ routedWithout view «memory_length» (address .0) width ⌝ }
+    ensures { λ r. ⌜ r ≡ routedWithout (viewOf (now (view .entry))) «memory_length» (address .0) width ⌝ }
 {
     if view_ok(view, memory_length, NO_REGION) {
         return route_judged(view, no_device(), address, width);

@@ -3,15 +3,18 @@ ghost use mathlib.Core.Path.{_≡_};
 ghost use mathlib.Core.Bool.{true};
 ghost use Prim.Native.Nat.{ℕ, _+_, _≤_, _<_};
 ghost use lib.Dec.{ltb};
+ghost use lib.ListN.{length};
 ghost use Rattle.region_map.specs.ViewRules.{rangeOf};
 ghost use Rattle.memory_device.specs.Table.{allBelow};
+ghost use Rattle.virtqueue.specs.Words.{viewOf};
 ghost use Rattle.virtqueue.specs.View.{rangeOk, pairOk, agree, entryOk, viewOk};
 ghost use Rattle.virtqueue.specs.Contracts.{Owners};
+use crate::words::count_of;
+use crate::words::range_at;
 use region_map::map::MANAGED;
 use region_map::map::MMIO;
 use region_map::map::RAM;
 use region_map::view::FlatRange;
-use region_map::view::FlatView;
 
 // Addresses and offsets end here: 2^48.
 const LIMIT: u64 = 281474976710656;
@@ -56,18 +59,19 @@ fn agrees(x: FlatRange, y: FlatRange) -> bool
 }
 
 // Range k with those before it, of which the last and the first of its region stand for all.
-fn pairs_ok(view: FlatView, owner: [usize; 32], k: usize) -> bool
-    requires { ⌜ (k < 256) × (rangeOf view k .region ≤ 31) ⌝ }
-    requires { ⌜ Owners view k owner ⌝ }
-    requires { ⌜ ((i j : ℕ) → i < j → j < k → rangeOf view i .last .0 < rangeOf view j .first .0) ⌝ }
-    requires { ⌜ ((j : ℕ) → j < k → rangeOf view j .first .0 ≤ rangeOf view j .last .0) ⌝ }
-    ensures { λ r. ⌜ r ≡ allBelow (λ j. pairOk (rangeOf view j) (rangeOf view k)) k ⌝ }
+fn pairs_ok(view: &[u64], owner: [usize; 32], k: usize) -> bool
+    requires { ⌜ length (now view) ≡ 1537 ⌝ }
+    requires { ⌜ (k < 256) × (rangeOf (viewOf (now view)) k .region ≤ 31) ⌝ }
+    requires { ⌜ Owners (viewOf (now view)) k owner ⌝ }
+    requires { ⌜ ((i j : ℕ) → i < j → j < k → rangeOf (viewOf (now view)) i .last .0 < rangeOf (viewOf (now view)) j .first .0) ⌝ }
+    requires { ⌜ ((j : ℕ) → j < k → rangeOf (viewOf (now view)) j .first .0 ≤ rangeOf (viewOf (now view)) j .last .0) ⌝ }
+    ensures { λ r. ⌜ r ≡ allBelow (λ j. pairOk (rangeOf (viewOf (now (view .entry))) j) (rangeOf (viewOf (now (view .entry))) k)) k ⌝ }
 {
     if k == 0 {
         return true;
     }
-    let range = view.ranges[k];
-    let before = view.ranges[k - 1];
+    let range = range_at(view, k);
+    let before = range_at(view, k - 1);
     if range.first.0 <= before.last.0 {
         return false;
     }
@@ -76,22 +80,25 @@ fn pairs_ok(view: FlatView, owner: [usize; 32], k: usize) -> bool
     if first == 0 {
         return true;
     }
-    let other = view.ranges[first - 1];
+    let other = range_at(view, first - 1);
     agrees(other, range)
 }
 
 // Does a given view keep 27's rules, over a memory and a managed region of these lengths?
-pub fn view_ok(view: FlatView, memory: u64, region: u64) -> bool
-    ensures { λ r. ⌜ r ≡ viewOk view memory region ⌝ }
+pub fn view_ok(view: &[u64], memory: u64, region: u64) -> bool
+    ensures { λ r. ⌜ r ≡ viewOk (viewOf (now (view .entry))) memory region ⌝ }
 {
-    let count = view.count;
+    if view.len() != 1537 {
+        return false;
+    }
+    let count = count_of(view);
     if 256 < count {
         return false;
     }
     let mut owner = [0usize; 32];
     let mut k: usize = 0;
     while k < count {
-        let range = view.ranges[k];
+        let range = range_at(view, k);
         if !range_ok(range, memory, region) {
             return false;
         }

@@ -1,13 +1,14 @@
 // A run of steps.
 ghost use mathlib.Core.Path.{_≡_};
 ghost use Prim.Native.Nat.{_≤_, min};
+ghost use Rattle.virtqueue.specs.Words.{viewOf};
 ghost use Rattle.virtqueue.specs.Run.{ran};
+use crate::find::near;
 use crate::queue::SplitQueue;
 use crate::serve::step_judged;
 use crate::step::StepOutcome;
 use crate::step::records_ok;
 use memory_device::device::MemoryDevice;
-use region_map::view::FlatView;
 
 // The most steps of a run.
 const STEPS: u64 = 256;
@@ -36,13 +37,13 @@ fn at_most(k: u64, most: u64) -> u64
 
 // Up to k steps, at most 256. The records are judged once.
 pub fn run_steps(
-    view: FlatView,
+    view: &[u64],
     device: MemoryDevice,
     queue: SplitQueue,
     mem: &mut [u8],
     k: u64,
 ) -> Ran
-    ensures { λ r. ⌜ (r ≡ ran view device queue (now (mem .entry)) k .result) × (now (mem .exit) ≡ ran view device queue (now (mem .entry)) k .memory) ⌝ }
+    ensures { λ r. ⌜ (r ≡ ran (viewOf (now (view .entry))) device queue (now (mem .entry)) k .result) × (now (mem .exit) ≡ ran (viewOf (now (view .entry))) device queue (now (mem .entry)) k .memory) ⌝ }
 {
     if !records_ok(view, device, queue, mem.len() as u64) {
         return Ran {
@@ -59,8 +60,9 @@ pub fn run_steps(
     let mut notified = false;
     let mut end = RunEnd::AllDone;
     let most = at_most(k, STEPS);
+    let hint = near(view, 0, queue.available);
     while served < most {
-        let s = step_judged(view, device_now, queue_now, mem);
+        let s = step_judged(view, device_now, queue_now, mem, hint);
         device_now = s.device;
         queue_now = s.queue;
         let outcome = s.outcome;

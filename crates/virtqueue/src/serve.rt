@@ -4,10 +4,11 @@ ghost use mathlib.Core.Bool.{true};
 ghost use Prim.Native.Nat.{_<_};
 ghost use lib.ListN.{length};
 ghost use Rattle.memory_device.specs.Device.{deviceOk};
+ghost use Rattle.virtqueue.specs.Words.{viewOf};
 ghost use Rattle.virtqueue.specs.Guest.{byView};
 ghost use Rattle.virtqueue.specs.Queue.{queueOk, stoppedBy, advanced as advancedQueue};
 ghost use Rattle.virtqueue.specs.Step.{usedPlaces, usedBytes, servedResult, servedMemory, steppedBy};
-ghost use Rattle.virtqueue.specs.Contracts.{Ordered, Backed, Within, UsedIn, placeIn};
+ghost use Rattle.virtqueue.specs.Contracts.{Judged, Backed, Within, UsedIn, placeIn};
 use crate::memory::copy_places;
 use crate::memory::write_bytes;
 use crate::queue::SplitQueue;
@@ -19,20 +20,19 @@ use crate::take::take;
 use crate::take::used_entry;
 use crate::take::used_idx;
 use memory_device::device::MemoryDevice;
-use region_map::view::FlatView;
 
 // The places of the used ring's ten bytes: the slot's eight, then idx.
-fn used_places(view: FlatView, queue: SplitQueue) -> [usize; 10]
-    requires { ⌜ Ordered view ⌝ }
+fn used_places(view: &[u64], queue: SplitQueue, hint: usize) -> [usize; 10]
+    requires { ⌜ Judged (now view) ⌝ }
     requires { ⌜ queueOk queue ≡ true ⌝ }
-    requires { ⌜ UsedIn view queue ⌝ }
-    ensures { λ r. ⌜ r ≡ usedPlaces (placeIn view) queue ⌝ }
+    requires { ⌜ UsedIn (viewOf (now view)) queue ⌝ }
+    ensures { λ r. ⌜ r ≡ usedPlaces (placeIn (viewOf (now (view .entry)))) queue ⌝ }
 {
     let none = [0usize; 10];
     let entry = used_entry(queue);
     let idx = used_idx(queue);
-    let slot = copy_places(view, none, 0, entry, 8);
-    copy_places(view, slot, 8, idx, 2)
+    let slot = copy_places(view, hint, none, 0, entry, 8);
+    copy_places(view, hint, slot, 8, idx, 2)
 }
 
 // And the bytes: the head, 10, and the next count.
@@ -70,29 +70,30 @@ fn stopped(queue: SplitQueue, stop: u8) -> SplitQueue
 
 // A chain that is ready: the request is carried out, and the response and the used ring are written.
 fn serve(
-    view: FlatView,
+    view: &[u64],
     device: MemoryDevice,
     queue: SplitQueue,
     mem: &mut [u8],
     chain: Taken,
     head: u64,
     notify: bool,
+    hint: usize,
 ) -> Stepped
-    requires { ⌜ Ordered view ⌝ }
+    requires { ⌜ Judged (now view) ⌝ }
     requires { ⌜ deviceOk device ≡ true ⌝ }
     requires { ⌜ queueOk queue ≡ true ⌝ }
-    requires { ⌜ UsedIn view queue ⌝ }
-    requires { ⌜ Backed view (length (now mem)) ⌝ }
+    requires { ⌜ UsedIn (viewOf (now view)) queue ⌝ }
+    requires { ⌜ Backed (viewOf (now view)) (length (now mem)) ⌝ }
     requires { ⌜ Within (chain .places) (length (now mem)) ⌝ }
     requires { ⌜ head < 65536 ⌝ }
-    ensures { λ r. ⌜ (r ≡ servedResult device queue notify (chain .request)) × (now (mem .exit) ≡ servedMemory (placeIn view) device queue head (chain .request) (chain .places) (now (mem .entry))) ⌝ }
+    ensures { λ r. ⌜ (r ≡ servedResult device queue notify (chain .request)) × (now (mem .exit) ≡ servedMemory (placeIn (viewOf (now (view .entry)))) device queue head (chain .request) (chain .places) (now (mem .entry))) ⌝ }
 {
     let request = chain.request;
     let places = chain.places;
     let answered = device.respond_to(request);
     let response = answered.response;
     let next = answered.device;
-    let used = used_places(view, queue);
+    let used = used_places(view, queue, hint);
     let bytes = used_bytes(head, queue.next_used);
     write_bytes(mem, places, response);
     write_bytes(mem, used, bytes);
@@ -105,18 +106,19 @@ fn serve(
 
 // One step on records that keep 27's rules.
 pub fn step_judged(
-    view: FlatView,
+    view: &[u64],
     device: MemoryDevice,
     queue: SplitQueue,
     mem: &mut [u8],
+    hint: usize,
 ) -> Stepped
-    requires { ⌜ Ordered view ⌝ }
-    requires { ⌜ Backed view (length (now mem)) ⌝ }
+    requires { ⌜ Judged (now view) ⌝ }
+    requires { ⌜ Backed (viewOf (now view)) (length (now mem)) ⌝ }
     requires { ⌜ deviceOk device ≡ true ⌝ }
     requires { ⌜ queueOk queue ≡ true ⌝ }
-    ensures { λ r. ⌜ (r ≡ steppedBy (byView view device) device queue (now (mem .entry)) .result) × (now (mem .exit) ≡ steppedBy (byView view device) device queue (now (mem .entry)) .memory) ⌝ }
+    ensures { λ r. ⌜ (r ≡ steppedBy (byView (viewOf (now (view .entry))) device) device queue (now (mem .entry)) .result) × (now (mem .exit) ≡ steppedBy (byView (viewOf (now (view .entry))) device) device queue (now (mem .entry)) .memory) ⌝ }
 {
-    let chain = take(view, device, queue, mem);
+    let chain = take(view, device, queue, mem, hint);
     let offer = chain.offer;
     match offer {
         TakenOffer::Stop(k) => Stepped {
@@ -129,6 +131,8 @@ pub fn step_judged(
             device: device,
             queue: queue,
         },
-        TakenOffer::Ready(head, notify) => serve(view, device, queue, mem, chain, head, notify),
+        TakenOffer::Ready(head, notify) => {
+            serve(view, device, queue, mem, chain, head, notify, hint)
+        },
     }
 }

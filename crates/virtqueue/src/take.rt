@@ -3,18 +3,19 @@ ghost use mathlib.Core.Path.{_≡_};
 ghost use mathlib.Core.Bool.{true};
 ghost use Prim.Native.Nat.{_<_};
 ghost use lib.ListN.{length};
+ghost use Rattle.virtqueue.specs.Words.{viewOf};
 ghost use Rattle.virtqueue.specs.Guest.{byView};
 ghost use Rattle.virtqueue.specs.Queue.{queueOk, usedEntry, usedIdx};
 ghost use Rattle.virtqueue.specs.Step.{noticesOf, headOf, chainOf, usedReached, offerChain, offered};
-ghost use Rattle.virtqueue.specs.Contracts.{Ordered, Backed, Takes, shapeFrom};
+ghost use Rattle.virtqueue.specs.Contracts.{Judged, Backed, Takes, shapeFrom};
 use crate::chain::Gathered;
 use crate::chain::gather;
+use crate::find::near;
 use crate::memory::read_number;
 use crate::queue::SplitQueue;
 use crate::reach::reaches;
 use memory_device::device::MemoryDevice;
 use region_map::map::GuestAddress;
-use region_map::view::FlatView;
 
 // What the available ring's flags and idx say: a stop, nothing offered, or whether to notify.
 pub enum AvailableNotices {
@@ -44,19 +45,26 @@ pub struct Taken {
 }
 
 // Available flags and idx; idle; the distance.
-fn notices(view: FlatView, device: MemoryDevice, queue: SplitQueue, mem: &[u8]) -> AvailableNotices
-    requires { ⌜ Ordered view ⌝ }
-    requires { ⌜ Backed view (length (now mem)) ⌝ }
+fn notices(
+    view: &[u64],
+    device: MemoryDevice,
+    queue: SplitQueue,
+    mem: &[u8],
+    hint: usize,
+) -> AvailableNotices
+    requires { ⌜ Judged (now view) ⌝ }
+    requires { ⌜ Backed (viewOf (now view)) (length (now mem)) ⌝ }
     requires { ⌜ 0 < device .«block_size» ⌝ }
     requires { ⌜ queueOk queue ≡ true ⌝ }
-    ensures { λ r. ⌜ r ≡ noticesOf (byView view device) (now (mem .entry)) queue ⌝ }
+    ensures { λ r. ⌜ r ≡ noticesOf (byView (viewOf (now (view .entry))) device) (now (mem .entry)) queue ⌝ }
 {
     let ring = queue.available;
-    if !reaches(view, device, ring, 4) {
+    let at = near(view, hint, ring);
+    if !reaches(view, device, at, ring, 4) {
         return AvailableNotices::Stop(17);
     }
-    let flags = read_number(view, mem, ring, 2);
-    let idx = read_number(view, mem, GuestAddress(ring.0 + 2), 2) as u16;
+    let flags = read_number(view, mem, at, ring, 2);
+    let idx = read_number(view, mem, at, GuestAddress(ring.0 + 2), 2) as u16;
     if idx == queue.next_available {
         return AvailableNotices::Idle;
     }
@@ -68,21 +76,22 @@ fn notices(view: FlatView, device: MemoryDevice, queue: SplitQueue, mem: &[u8]) 
 }
 
 // The ring entry at seen mod n.
-fn head(view: FlatView, device: MemoryDevice, queue: SplitQueue, mem: &[u8]) -> HeadEntry
-    requires { ⌜ Ordered view ⌝ }
-    requires { ⌜ Backed view (length (now mem)) ⌝ }
+fn head(view: &[u64], device: MemoryDevice, queue: SplitQueue, mem: &[u8], hint: usize) -> HeadEntry
+    requires { ⌜ Judged (now view) ⌝ }
+    requires { ⌜ Backed (viewOf (now view)) (length (now mem)) ⌝ }
     requires { ⌜ 0 < device .«block_size» ⌝ }
     requires { ⌜ queueOk queue ≡ true ⌝ }
-    ensures { λ r. ⌜ r ≡ headOf (byView view device) (now (mem .entry)) queue ⌝ }
+    ensures { λ r. ⌜ r ≡ headOf (byView (viewOf (now (view .entry))) device) (now (mem .entry)) queue ⌝ }
 {
     let slot = (queue.next_available % queue.size) as u64;
     let entry = GuestAddress(queue.available.0 + 4 + 2 * slot);
-    if !reaches(view, device, entry, 2) {
+    let at = near(view, hint, entry);
+    if !reaches(view, device, at, entry, 2) {
         return HeadEntry::Stop(17);
     }
-    let at = read_number(view, mem, entry, 2);
-    if at < queue.size as u64 {
-        return HeadEntry::At(at);
+    let number = read_number(view, mem, at, entry, 2);
+    if number < queue.size as u64 {
+        return HeadEntry::At(number);
     }
     HeadEntry::Stop(19)
 }
@@ -105,15 +114,16 @@ pub fn used_idx(queue: SplitQueue) -> GuestAddress
 }
 
 // Are the used element and the used idx reachable?
-fn used_reached(view: FlatView, device: MemoryDevice, queue: SplitQueue) -> bool
-    requires { ⌜ Ordered view ⌝ }
+fn used_reached(view: &[u64], device: MemoryDevice, queue: SplitQueue, hint: usize) -> bool
+    requires { ⌜ Judged (now view) ⌝ }
     requires { ⌜ 0 < device .«block_size» ⌝ }
     requires { ⌜ queueOk queue ≡ true ⌝ }
-    ensures { λ r. ⌜ r ≡ usedReached (byView view device) queue ⌝ }
+    ensures { λ r. ⌜ r ≡ usedReached (byView (viewOf (now (view .entry))) device) queue ⌝ }
 {
     let entry = used_entry(queue);
     let idx = used_idx(queue);
-    reaches(view, device, entry, 8) & reaches(view, device, idx, 2)
+    let at = near(view, hint, entry);
+    reaches(view, device, at, entry, 8) & reaches(view, device, at, idx, 2)
 }
 
 // The number that ended a chain, or 22 for one that is too short, or 0.
@@ -141,27 +151,28 @@ fn ends_with(offer: TakenOffer) -> Taken
 
 // The chain from a head on, its shape, and the used ring.
 fn take_chain(
-    view: FlatView,
+    view: &[u64],
     device: MemoryDevice,
     queue: SplitQueue,
     mem: &[u8],
     head: u64,
     notify: bool,
+    hint: usize,
 ) -> Taken
-    requires { ⌜ Ordered view ⌝ }
-    requires { ⌜ Backed view (length (now mem)) ⌝ }
+    requires { ⌜ Judged (now view) ⌝ }
+    requires { ⌜ Backed (viewOf (now view)) (length (now mem)) ⌝ }
     requires { ⌜ 0 < device .«block_size» ⌝ }
     requires { ⌜ queueOk queue ≡ true ⌝ }
     requires { ⌜ head < queue .size ⌝ }
-    ensures { λ r. ⌜ Takes (byView view device) (now (mem .entry)) (offerChain (byView view device) queue head notify (chainOf (byView view device) (now (mem .entry)) queue head)) r ⌝ }
+    ensures { λ r. ⌜ Takes (byView (viewOf (now (view .entry))) device) (now (mem .entry)) (offerChain (byView (viewOf (now (view .entry))) device) queue head notify (chainOf (byView (viewOf (now (view .entry))) device) (now (mem .entry)) queue head)) r ⌝ }
 {
     let table = queue.descriptors;
-    let gathered = gather(view, device, mem, table, queue.size as u64, head);
+    let gathered = gather(view, device, mem, table, queue.size as u64, head, hint);
     let stop = shape(gathered);
     if stop != 0 {
         return ends_with(TakenOffer::Stop(stop));
     }
-    if !used_reached(view, device, queue) {
+    if !used_reached(view, device, queue, hint) {
         return ends_with(TakenOffer::Stop(17));
     }
     let request = gathered.request;
@@ -173,25 +184,25 @@ fn take_chain(
     }
 }
 
-// All that a step reads.
-pub fn take(view: FlatView, device: MemoryDevice, queue: SplitQueue, mem: &[u8]) -> Taken
-    requires { ⌜ Ordered view ⌝ }
-    requires { ⌜ Backed view (length (now mem)) ⌝ }
+// All that a step reads. The hint is a range in which the queue is likely to lie; any number will do.
+pub fn take(view: &[u64], device: MemoryDevice, queue: SplitQueue, mem: &[u8], hint: usize) -> Taken
+    requires { ⌜ Judged (now view) ⌝ }
+    requires { ⌜ Backed (viewOf (now view)) (length (now mem)) ⌝ }
     requires { ⌜ 0 < device .«block_size» ⌝ }
     requires { ⌜ queueOk queue ≡ true ⌝ }
-    ensures { λ r. ⌜ Takes (byView view device) (now (mem .entry)) (offered (byView view device) (now (mem .entry)) queue) r ⌝ }
+    ensures { λ r. ⌜ Takes (byView (viewOf (now (view .entry))) device) (now (mem .entry)) (offered (byView (viewOf (now (view .entry))) device) (now (mem .entry)) queue) r ⌝ }
 {
     let stop = queue.stop;
     if stop != 0 {
         return ends_with(TakenOffer::Stop(stop));
     }
-    match notices(view, device, queue, mem) {
+    match notices(view, device, queue, mem, hint) {
         AvailableNotices::Stop(k) => ends_with(TakenOffer::Stop(k)),
         AvailableNotices::Idle => ends_with(TakenOffer::Idle),
         AvailableNotices::Offered(notify) => {
-            match head(view, device, queue, mem) {
+            match head(view, device, queue, mem, hint) {
                 HeadEntry::Stop(k) => ends_with(TakenOffer::Stop(k)),
-                HeadEntry::At(h) => take_chain(view, device, queue, mem, h, notify),
+                HeadEntry::At(h) => take_chain(view, device, queue, mem, h, notify, hint),
             }
         }
     }

@@ -4,7 +4,7 @@ ghost use Rattle.virtqueue.specs.Step.{stepped};
 ghost use Rattle.virtqueue.specs.Thin.{told};
 use crate::queue::SplitQueue;
 use crate::step::StepOutcome;
-use crate::step::step;
+use crate::step::step_with;
 use memory_device::device::MemoryDevice;
 use region_map::view::FlatView;
 
@@ -23,7 +23,7 @@ pub fn advance(
 ) -> Advanced
     ensures { λ r. ⌜ (r ≡ told (stepped view device (now (queue .entry)) (now (mem .entry)) .result)) × (now (mem .exit) ≡ stepped view device (now (queue .entry)) (now (mem .entry)) .memory) × (now (queue .exit) ≡ stepped view device (now (queue .entry)) (now (mem .entry)) .result .queue) ⌝ }
 {
-    let s = step(view, device, *queue, mem);
+    let s = step_with(view, device, *queue, mem);
     *queue = s.queue;
     Advanced {
         outcome: s.outcome,

@@ -16,8 +16,8 @@ use Rattle.region_map.specs.declared.map.RegionMap.{RegionMap}
 use Rattle.region_map.specs.declared.view.FlatRange.{FlatRange}
 use Rattle.region_map.specs.declared.view.FlatView.{FlatView}
 use Rattle.region_map.specs.Map.{noRegion, emptyMap}
-use Rattle.region_map.specs.Flatten.{noRange, viewOf as listView}
-use Rattle.wicktumble.specs.Words.{regionAt, regionsAt, mapOf, regionWords, regionsWords, rangeAt, rangesAt, viewOf, rangeWords, rangesWords}
+use Rattle.virtqueue.specs.Words.{rangeWords, rangesWords}
+use Rattle.wicktumble.specs.Words.{regionAt, regionsAt, mapOf, regionWords, regionsWords}
 
 -- ---- stores at a place and at the places behind it, as code names them
 abbrev puts : List ℕ → ℕ → ℕ → List ℕ → List ℕ
@@ -104,16 +104,9 @@ pub regions-read : (w : List ℕ) → Read (regionAt w) (regionsAt w) 9
 unfolding regionsAt
 regions-read w = record { none = λ at. refl; more = λ at n. refl }
 
-pub ranges-read : (w : List ℕ) → Read (rangeAt w) (rangesAt w) 6
-unfolding rangesAt
-ranges-read w = record { none = λ at. refl; more = λ at n. refl }
-
--- ---- a map and a view of which the first i entries were read
+-- ---- a map of which the first i regions were read
 abbrev pub mapUpTo : List ℕ → ℕ → RegionMap
 mapUpTo w i = record { count = getD w 0 0; regions = regionsAt w 1 i ++ replicate (32 - i) noRegion }
-
-abbrev pub viewUpTo : List ℕ → ℕ → FlatView
-viewUpTo w i = record { count = getD w 0 0; ranges = rangesAt w 1 i ++ replicate (256 - i) noRange }
 
 module _ (w : List ℕ) where
   pub map-start : (m : RegionMap) → m ≡ emptyMap → record { count = getD w 0 0; regions = m .regions } ≡ mapUpTo w 0
@@ -129,20 +122,6 @@ module _ (w : List ℕ) where
   pub map-end : (m : RegionMap) (i : ℕ) → m ≡ mapUpTo w i → i ≡ min (getD w 0 0) 32 → m ≡ mapOf w
   unfolding mapOf
   map-end m i e h = e ∙ ap (mapUpTo w) h
-
-  pub view-start : (v : FlatView) → v ≡ listView [] → record { count = getD w 0 0; ranges = v .ranges } ≡ viewUpTo w 0
-  unfolding rangesAt listView
-  view-start v e = λ j. record { count = getD w 0 0; ranges = e j .ranges }
-
-  pub view-turn : (v : FlatView) (r : FlatRange) (i : ℕ) → v ≡ viewUpTo w i → r ≡ rangeAt w (1 + 6 * i) → i < 256
-      → record { count = v .count; ranges = set (v .ranges) i r } ≡ viewUpTo w (i + 1)
-  view-turn v r i e q h =
-      (λ j. record { count = e j .count; ranges = set (e j .ranges) i (q j) })
-      ∙ ap {B = FlatView} (λ x. record { count = getD w 0 0; ranges = x }) (read-turn (ranges-read w) 1 256 i noRange h)
-
-  pub view-end : (v : FlatView) (i : ℕ) → v ≡ viewUpTo w i → i ≡ min (getD w 0 0) 256 → v ≡ viewOf w
-  unfolding viewOf
-  view-end v i e h = e ∙ ap (viewUpTo w) h
 
 -- ---- the test of their loops
 pub below-both : (i n m : ℕ) → (ltb i n && ltb i m) ≡ true → i < min n m

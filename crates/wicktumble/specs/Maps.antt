@@ -9,7 +9,8 @@ use Rattle.region_map.specs.Flatten as flat
 use Rattle.region_map.specs.declared.resolve.Resolved.{Resolved}
 use Rattle.region_map.specs.declared.resolve.Resolved.the-variants.{Nothing, At}
 use Rattle.sheet.specs.Sheet as sheet
-use Rattle.wicktumble.specs.Words.{mapOf, mapWords, viewWords, three, replyWords, isMap, isView, isResult}
+use Rattle.virtqueue.specs.Words.{viewWords}
+use Rattle.wicktumble.specs.Words.{mapOf, mapWords, three, replyWords, isMap, isView, isResult}
 
 -- a number and a result; with a record that is written
 pub record Told : Type 0 where

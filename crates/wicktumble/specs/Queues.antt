@@ -5,13 +5,14 @@ use Prim.Native.Nat.{ℕ}
 use lib.Dec.{eqb, leb}
 use Rattle.region_map.specs.Reply.{numberOf}
 use Rattle.virtqueue.specs.Queue.{areasOk, made, wasReset, queueReply}
+use Rattle.virtqueue.specs.Words.{viewOf}
 use Rattle.virtqueue.specs.Step.{Effect, stepped}
 use Rattle.virtqueue.specs.Run.{RunEffect, ran}
 use Rattle.virtqueue.specs.declared.step.StepOutcome.{StepOutcome}
 use Rattle.virtqueue.specs.declared.step.StepOutcome.the-variants as outcome
 use Rattle.virtqueue.specs.declared.run.RunEnd.{RunEnd}
 use Rattle.virtqueue.specs.declared.run.RunEnd.the-variants as end
-use Rattle.wicktumble.specs.Words.{viewOf, deviceOf, deviceWords, queueFits, queueOf, queueWords, three, isView, isDevice, isQueue, isResult}
+use Rattle.wicktumble.specs.Words.{deviceOf, deviceWords, queueFits, queueOf, queueWords, three, isView, isDevice, isQueue, isResult}
 use Rattle.wicktumble.specs.Devices.{Changed}
 
 -- a size past 16 bits is no power of two from 1 to 256: 16

@@ -5,10 +5,11 @@ use Prim.Native.Nat.{ℕ}
 use lib.Dec.{eqb}
 use lib.ListN.{length}
 use Rattle.region_map.specs.Reply.{numberOf}
+use Rattle.virtqueue.specs.Words.{viewOf}
 use Rattle.virtqueue.specs.Route.{routedWith, routedWithout, routeReply}
 use Rattle.virtqueue.specs.declared.route.RouteAnswer.{RouteAnswer}
 use Rattle.virtqueue.specs.declared.route.RouteAnswer.the-variants.{Refused, Memory, Port}
-use Rattle.wicktumble.specs.Words.{viewOf, deviceOf, three, isView, isDevice, isResult}
+use Rattle.wicktumble.specs.Words.{deviceOf, three, isView, isDevice, isResult}
 use Rattle.wicktumble.specs.Maps.{Told, untold}
 
 -- 1 and the memory place, or 2, the port and the offset

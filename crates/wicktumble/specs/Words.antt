@@ -47,35 +47,6 @@ regionsWords (r ∷ rs) = regionWords r ++ regionsWords rs
 unfoldable pub mapWords : RegionMap → List ℕ
 mapWords m = m .count ∷ regionsWords (m .regions)
 
--- a view of 1,537 words: the count, and 256 ranges of 6; ranges past the count are taken as zero
-abbrev pub rangeAt : List ℕ → ℕ → FlatRange
-rangeAt w at =
-    record {
-      first = record { 0 = getD w at 0 };
-      last = record { 0 = getD w (at + 1) 0 };
-      region = getD w (at + 2) 0;
-      offset = record { 0 = getD w (at + 3) 0 };
-      kind = getD w (at + 4) 0;
-      base = getD w (at + 5) 0;
-    }
-
-unfoldable pub rangesAt : List ℕ → ℕ → ℕ → List FlatRange
-rangesAt w at zero = []
-rangesAt w at (suc n) = rangeAt w at ∷ rangesAt w (at + 6) n
-
-unfoldable pub viewOf : List ℕ → FlatView
-viewOf w = record { count = getD w 0 0; ranges = rangesAt w 1 (min (getD w 0 0) 256) ++ replicate (256 - min (getD w 0 0) 256) noRange }
-
-abbrev pub rangeWords : FlatRange → List ℕ
-rangeWords r = r .first .0 ∷ r .last .0 ∷ r .region ∷ r .offset .0 ∷ r .kind ∷ r .base ∷ []
-
-unfoldable pub rangesWords : List FlatRange → List ℕ
-rangesWords [] = []
-rangesWords (r ∷ rs) = rangeWords r ++ rangesWords rs
-
-unfoldable pub viewWords : FlatView → List ℕ
-viewWords v = v .count ∷ rangesWords (v .ranges)
-
 -- a device of 37 words
 unfoldable pub deviceOf : List ℕ → MemoryDevice
 deviceOf w =

@@ -9,7 +9,6 @@ use crate::words::put_queue;
 use crate::words::put_three;
 use crate::words::queue_fits;
 use crate::words::queue_of;
-use crate::words::view_of;
 use region_map::map::GuestAddress;
 use virtqueue::queue;
 use virtqueue::queue::make_queue;
@@ -109,10 +108,9 @@ pub extern "C" fn wt_step(
         × (now (result .exit) ≡ stepCall (now (view .entry)) (now (device .entry)) (now (queue .entry)) (now (memory .entry)) (now (result .entry)) .result) ⌝ }
 {
     if records_fit(view, device, queue, result) {
-        let flat = view_of(view);
         let d = device_of(device);
         let q = queue_of(queue);
-        let s = step::step(flat, d, q, memory);
+        let s = step::step(view, d, q, memory);
         let next_device = s.device;
         let next_queue = s.queue;
         let outcome = s.outcome;
@@ -166,10 +164,9 @@ pub extern "C" fn wt_run(
         × (now (result .exit) ≡ runCall (now (view .entry)) (now (device .entry)) (now (queue .entry)) (now (memory .entry)) k (now (result .entry)) .result) ⌝ }
 {
     if records_fit(view, device, queue, result) {
-        let flat = view_of(view);
         let d = device_of(device);
         let q = queue_of(queue);
-        let s = run_steps(flat, d, q, memory, k);
+        let s = run_steps(view, d, q, memory, k);
         let next_device = s.device;
         let next_queue = s.queue;
         let end = s.end;

@@ -7,7 +7,6 @@ ghost use lib.ListN.{length};
 ghost use Rattle.wicktumble.specs.Routes.{routeWords, routeBy, routeCall};
 use crate::words::device_of;
 use crate::words::put_three;
-use crate::words::view_of;
 use region_map::map::GuestAddress;
 use virtqueue::route;
 use virtqueue::route::RouteAnswer;
@@ -35,12 +34,11 @@ fn route_by(
     requires { ⌜ (eqb (length (now device)) 0 || isDevice (now device)) ≡ true ⌝ }
     ensures { λ r. ⌜ r ≡ routeBy (now (view .entry)) «memory_length» (now (device .entry)) address width ⌝ }
 {
-    let flat = view_of(view);
     if device.len() == 0 {
-        return route::route_without_device(flat, memory_length, GuestAddress(address), width);
+        return route::route_without_device(view, memory_length, GuestAddress(address), width);
     }
     let d = device_of(device);
-    route::route(flat, memory_length, d, GuestAddress(address), width)
+    route::route(view, memory_length, d, GuestAddress(address), width)
 }
 
 #[no_mangle]

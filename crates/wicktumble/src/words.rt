@@ -6,17 +6,16 @@ ghost use lib.ListN.{length, take, drop};
 ghost use lib.Seq.{sets};
 ghost use Rattle.region_map.specs.Check.{reply};
 ghost use Rattle.sheet.specs.Answer.{sheetReply};
-ghost use Rattle.wicktumble.specs.Words.{regionAt, mapOf, regionWords, mapWords, rangeAt, viewOf, rangeWords, viewWords, deviceOf, deviceWords, queueFits, queueOf, queueWords, three, replyWords};
+ghost use Rattle.virtqueue.specs.Words.{rangeWords, viewWords};
+ghost use Rattle.wicktumble.specs.Words.{regionAt, mapOf, regionWords, mapWords, deviceOf, deviceWords, queueFits, queueOf, queueWords, three, replyWords};
 use memory_device::device::MemoryDevice;
 use region_map::check::MapAnswer;
 use region_map::map::GuestAddress;
 use region_map::map::Region;
 use region_map::map::RegionMap;
-use region_map::map::RegionOffset;
 use region_map::map::empty_map;
 use region_map::view::FlatRange;
 use region_map::view::FlatView;
-use region_map::view::empty_view;
 use sheet::answer::SheetAnswer;
 use virtqueue::queue::SplitQueue;
 
@@ -85,36 +84,6 @@ pub fn put_map(words: &mut [u64], map: RegionMap)
         put_region(words, 1 + 9 * i, region);
         i += 1;
     }
-}
-
-fn range_at(words: &[u64], at: usize) -> FlatRange
-    requires { ⌜ at + 6 ≤ length (now words) ⌝ }
-    ensures { λ r. ⌜ r ≡ rangeAt (now (words .entry)) at ⌝ }
-{
-    FlatRange {
-        first: GuestAddress(words[at]),
-        last: GuestAddress(words[at + 1]),
-        region: words[at + 2] as usize,
-        offset: RegionOffset(words[at + 3]),
-        kind: words[at + 4],
-        base: words[at + 5],
-    }
-}
-
-// A view, as far as its count goes.
-pub fn view_of(words: &[u64]) -> FlatView
-    requires { ⌜ length (now words) ≡ 1537 ⌝ }
-    ensures { λ r. ⌜ r ≡ viewOf (now (words .entry)) ⌝ }
-{
-    let mut view = empty_view();
-    let count = words[0] as usize;
-    view.count = count;
-    let mut i: usize = 0;
-    while (i < count) & (i < 256) {
-        view.ranges[i] = range_at(words, 1 + 6 * i);
-        i += 1;
-    }
-    view
 }
 
 fn put_range(words: &mut [u64], at: usize, range: FlatRange)

@@ -1,5 +1,6 @@
 -- `virtqueue::chain::descriptor_at` meets its contract. Assumes nothing.
 use native.Mathlib.Omega.{arith}
+use Rattle.virtqueue.specs.Words.{viewOf}
 use Rattle.virtqueue.specs.Chain.{descriptorAt}
 use Rattle.virtqueue.proofs.GuestLaws.{memory-front, memory-part}
 use Rattle.virtqueue.proofs.chain.descriptor_at.Statement.{statement}
@@ -7,32 +8,32 @@ use Rattle.virtqueue.proofs.chain.descriptor_at.Tie as tie
 
 read-number-requires : tie.Need-read-number-requires
 read-number-requires c κs =
-    let s = c .before in
-    (s .pre .0, (s .pre .1 .0, (memory-front (s .args .view) (s .args .at .0) 16 8 (s .pre .1 .1 .0) (omega arith), omega arith)))
+    let s = c .before .before in
+    (s .pre .0, (s .pre .1 .0, (memory-front (viewOf (s .args .view .now)) (s .args .at .0) 16 8 (s .pre .1 .1 .0) (omega arith), (omega arith, omega arith))))
 
-add-t8 : tie.Need-add-t8
-add-t8 c = omega arith
+add-t9 : tie.Need-add-t9
+add-t9 c = omega arith
 
 read-number-requires-2 : tie.Need-read-number-requires-2
 read-number-requires-2 c κs =
-    let s = c .before .before .before in
-    (s .pre .0, (s .pre .1 .0, (memory-part (s .args .view) (s .args .at .0) 16 8 4 (s .pre .1 .1 .0) (omega arith), omega arith)))
+    let s = c .before .before .before .before in
+    (s .pre .0, (s .pre .1 .0, (memory-part (viewOf (s .args .view .now)) (s .args .at .0) 16 8 4 (s .pre .1 .1 .0) (omega arith), (omega arith, omega arith))))
 
-add-t8-2 : tie.Need-add-t8-2
-add-t8-2 c = omega arith
+add-t9-2 : tie.Need-add-t9-2
+add-t9-2 c = omega arith
 
 read-number-requires-3 : tie.Need-read-number-requires-3
 read-number-requires-3 c κs =
-    let s = c .before .before .before .before .before in
-    (s .pre .0, (s .pre .1 .0, (memory-part (s .args .view) (s .args .at .0) 16 12 2 (s .pre .1 .1 .0) (omega arith), omega arith)))
+    let s = c .before .before .before .before .before .before in
+    (s .pre .0, (s .pre .1 .0, (memory-part (viewOf (s .args .view .now)) (s .args .at .0) 16 12 2 (s .pre .1 .1 .0) (omega arith), (omega arith, omega arith))))
 
-add-t8-3 : tie.Need-add-t8-3
-add-t8-3 c = omega arith
+add-t9-3 : tie.Need-add-t9-3
+add-t9-3 c = omega arith
 
 read-number-requires-4 : tie.Need-read-number-requires-4
 read-number-requires-4 c κs =
-    let s = c .before .before .before .before .before .before .before in
-    (s .pre .0, (s .pre .1 .0, (memory-part (s .args .view) (s .args .at .0) 16 14 2 (s .pre .1 .1 .0) (omega arith), omega arith)))
+    let s = c .before .before .before .before .before .before .before .before in
+    (s .pre .0, (s .pre .1 .0, (memory-part (viewOf (s .args .view .now)) (s .args .at .0) 16 14 2 (s .pre .1 .1 .0) (omega arith), (omega arith, omega arith))))
 
 returns : tie.Need-returns
 unfolding descriptorAt
@@ -48,10 +49,10 @@ descriptor-at-spec =
     tie.close
     (tie.spec
     read-number-requires
-    add-t8
+    add-t9
     read-number-requires-2
-    add-t8-2
+    add-t9-2
     read-number-requires-3
-    add-t8-3
+    add-t9-3
     read-number-requires-4
     returns)

@@ -1,34 +1,34 @@
 -- `virtqueue::find::near` meets its contract. Assumes nothing.
-use mathlib.Core.Path.{_≡_}
+use mathlib.Core.Path.{ap}
 use native.Mathlib.Omega.{arith}
 use lib.Dec.{leb}
-use lib.ListN.{length, length-map}
 use borrow.Author.Tests.{leb-true}
 use Rattle.region_map.proofs.Bools.{and-fst, and-snd}
-use Rattle.region_map.specs.ViewRules.{rangeOf}
+use Rattle.region_map.specs.declared.view.FlatRange.{FlatRange}
+use Rattle.virtqueue.specs.Words.{viewOf}
 use Rattle.virtqueue.proofs.FindLaws.{spot-at}
+use Rattle.virtqueue.proofs.WordLaws.{full-words}
 use borrow.Author.Needs.{needs}
 use Rattle.virtqueue.proofs.find.near.Statement.{statement}
 use Rattle.virtqueue.proofs.find.near.Tie as tie
 
-full : (s : tie.Start) → length (s .args .t1 .ranges) ≡ 256
-full s = simp length-map at (s .good .0 .1 .1 .1 .0 .1 .0 .1)
+count-of-requires : tie.Need-count-of-requires
+count-of-requires c κs = search needs
 
-mul-range : tie.Need-mul-range
-mul-range c = search needs
-
-element-copy-out-range : tie.Need-element-copy-out-range
-element-copy-out-range c = search needs
+range-at-requires : tie.Need-range-at-requires
+range-at-requires c κs = search needs
 
 returns : tie.Need-returns
 returns c =
-    let s = c .before .before .before .before .before .before .before in
-    let r = rangeOf (s .args .t1) (s .args .hint) in
+    let s = c .before .before .before .before .before .before .before .before .before in
+    let w = s .args .view .now in
+    let r = c .before .before .before .before .before .range-at .result in
+    let e = c .before .before .before .before .before .range-at .ensures in
     let a = s .args .a .0 in
-    let t = c .if2 .taken in
-    spot-at (s .args .t1) (omega (arith, full s, s .pre .few)) (s .pre) (s .args .hint) a (c .before .before .before .before .before .before .if1 .taken)
-    (leb-true (r .first .0) a (and-fst (leb (r .first .0) a) (leb a (r .last .0)) t))
-    (leb-true a (r .last .0) (and-snd (leb (r .first .0) a) (leb a (r .last .0)) t))
+    let p = leb-true (r .first .0) a (and-fst (leb (r .first .0) a) (leb a (r .last .0)) (c .if2 .taken)) in
+    let q = leb-true a (r .last .0) (and-snd (leb (r .first .0) a) (leb a (r .last .0)) (c .if2 .taken)) in
+    spot-at (viewOf w) (omega (arith, full-words w, s .pre .ordered .few)) (s .pre .ordered) (s .args .hint) a (omega (arith, c .before .before .before .before .before .before .if1 .taken, c .before .before .before .before .before .before .before .count-of .ensures))
+    (omega (arith, p, ap (λ (x : FlatRange). x .first .0) e)) (omega (arith, q, ap (λ (x : FlatRange). x .last .0) e))
 
 search-requires : tie.Need-search-requires
 search-requires c κs = search needs
@@ -37,4 +37,5 @@ returns-2 : tie.Need-returns-2
 returns-2 c = search needs
 
 pub near-spec : {M : Type 1} → statement M
-near-spec = tie.close (tie.spec mul-range element-copy-out-range returns search-requires returns-2)
+near-spec =
+    tie.close (tie.spec count-of-requires range-at-requires returns search-requires returns-2)

@@ -1,93 +1,106 @@
 -- `virtqueue::find::search` meets its contract. Assumes nothing.
-use mathlib.Core.Path.{_≡_}
+use mathlib.Core.Path.{sym, ap, subst}
 use Prim.Native.Nat.{ℕ, _+_, _-_, _/_, _≤_, _<_}
 use native.Mathlib.Omega.{arith}
-use lib.ListN.{length, length-map}
+use lib.ListN.{length}
 use Rattle.region_map.specs.ViewRules.{rangeOf}
+use Rattle.region_map.specs.declared.view.FlatRange.{FlatRange}
+use Rattle.virtqueue.specs.Words.{viewOf}
+use Rattle.virtqueue.specs.Contracts.{Spot}
 use Rattle.virtqueue.proofs.FindLaws.{spot-at, spot-past, spot-between, last-up}
-use borrow.Author.Needs.{needs}
+use Rattle.virtqueue.proofs.WordLaws.{full-words}
 use Rattle.virtqueue.proofs.find.search.Statement.{statement}
 use Rattle.virtqueue.proofs.find.search.Tie as tie
 
 abbrev Inv-loop : tie.InvT-loop
-Inv-loop a view low₀ high₀ low high =
-    (low ≤ high) × (high ≤ view .count) × ((j : ℕ) → j < low → rangeOf view j .last .0 < a .0)
-    × ((j : ℕ) → high ≤ j → j < view .count → a .0 ≤ rangeOf view j .last .0)
+Inv-loop view a low₀ count high₀ low high =
+    (low ≤ high) × (high ≤ viewOf view .count) × ((j : ℕ) → j < low → rangeOf (viewOf view) j .last .0 < a .0)
+    × ((j : ℕ) → high ≤ j → j < viewOf view .count → a .0 ≤ rangeOf (viewOf view) j .last .0)
 
 abbrev μ-loop : tie.MeasureT-loop
-μ-loop a view low₀ high₀ low high = high - low
+μ-loop view a low₀ count high₀ low high = high - low
 
-room : (s : tie.Start Inv-loop μ-loop) → s .args .t1 .count ≤ length (s .args .t1 .ranges)
-room s =
-    let full : length (s .args .t1 .ranges) ≡ 256 = simp length-map at (s .good .0 .1 .1 .1 .0 .1 .0 .1) in
-    omega (arith, full, s .pre .few)
+room : (s : tie.Start Inv-loop μ-loop) → viewOf (s .args .view .now) .count ≤ length (viewOf (s .args .view .now) .ranges)
+room s = omega (arith, full-words (s .args .view .now), s .pre .ordered .few)
+
+count-of-requires : tie.Need-count-of-requires Inv-loop μ-loop
+count-of-requires c κs = c .before .pre .words
 
 loop-holds : tie.Need-loop-holds Inv-loop μ-loop
-loop-holds c = (omega arith, omega arith, λ j h. absurd (omega arith), λ j h q. absurd (omega arith))
+loop-holds c = (omega arith, omega (arith, c .count-of .ensures), λ j h. absurd (omega arith), λ j h q. absurd (omega (arith, c .count-of .ensures)))
 
 sub-middle : tie.Need-sub-middle Inv-loop μ-loop
-sub-middle c = search needs
+sub-middle c = omega (arith, c .loop-test .taken)
 
 add-middle : tie.Need-add-middle Inv-loop μ-loop
-add-middle c = search needs
+add-middle c = omega (arith, c .loop-test .taken, c .before .loop .inv .1, c .before .before .before .before .pre .ordered .few)
 
-mul-range : tie.Need-mul-range Inv-loop μ-loop
-mul-range c = search needs
-
-element-copy-out-range : tie.Need-element-copy-out-range Inv-loop μ-loop
-element-copy-out-range c = search needs
+range-at-requires : tie.Need-range-at-requires Inv-loop μ-loop
+range-at-requires c κs =
+    let s = c .before .before .before .before in
+    (s .pre .words, omega (arith, c .loop-test .taken, c .before .loop .inv .1, s .pre .ordered .few))
 
 add-low : tie.Need-add-low Inv-loop μ-loop
-add-low c = search needs
+add-low c = omega (arith, c .before .before .before .before .loop-test .taken, c .before .before .before .before .before .loop .inv .1, c .before .before .before .before .before .before .before .before .pre .ordered .few)
 
 loop-less : tie.Need-loop-less Inv-loop μ-loop
-loop-less c = search needs
+loop-less c = omega (arith, c .before .before .before .before .loop-test .taken)
 
 loop-again : tie.Need-loop-again Inv-loop μ-loop
 loop-again c =
     let l = c .before .before .before .before .before .loop in
-    let s = c .before .before .before .before .before .before in (
-      omega arith,
-      omega arith,
-      λ j h. omega (arith, last-up (s .args .t1) (room s) (s .pre) j (l .low + (l .high - l .low) / 2) (omega arith) (omega arith), c .if1 .taken),
+    let s = c .before .before .before .before .before .before .before .before in
+    let h = c .before .before .before .before .loop-test .taken in
+    let e = ap (λ (r : FlatRange). r .last .0) (c .before .before .before .range-at .ensures) in (
+      omega (arith, h),
+      l .inv .1,
+      λ j q. omega (arith, last-up (viewOf (s .args .view .now)) (room s) (s .pre .ordered) j (l .low + (l .high - l .low) / 2) (omega arith) (omega (arith, h, l .inv .1)), c .if1 .taken, e),
       l .inv .3,
     )
 
 loop-less-2 : tie.Need-loop-less-2 Inv-loop μ-loop
-loop-less-2 c = search needs
+loop-less-2 c = omega (arith, c .before .before .before .before .loop-test .taken)
 
 loop-again-2 : tie.Need-loop-again-2 Inv-loop μ-loop
 loop-again-2 c =
     let l = c .before .before .before .before .before .loop in
-    let s = c .before .before .before .before .before .before in (
-      omega arith,
-      omega arith,
+    let s = c .before .before .before .before .before .before .before .before in
+    let h = c .before .before .before .before .loop-test .taken in
+    let e = ap (λ (r : FlatRange). r .last .0) (c .before .before .before .range-at .ensures) in (
+      omega (arith, h),
+      omega (arith, h, l .inv .1),
       l .inv .2,
-      λ j h q. omega (arith, last-up (s .args .t1) (room s) (s .pre) (l .low + (l .high - l .low) / 2) j h q, c .if1 .left),
+      λ j p q. omega (arith, last-up (viewOf (s .args .view .now)) (room s) (s .pre .ordered) (l .low + (l .high - l .low) / 2) j p q, c .if1 .left, e),
     )
 
 returns : tie.Need-returns Inv-loop μ-loop
 returns c =
-    let s = c .before .before .before in
-    spot-past (s .args .t1) (room s) (s .pre) (s .args .a .0) (λ j h. c .before .before .loop .inv .2 j (omega (arith, c .if2 .taken)))
+    let s = c .before .before .before .before .before in
+    let v = viewOf (s .args .view .now) in
+    let e = c .before .before .before .count-of .ensures in
+    subst (λ (n : ℕ). Spot v (s .args .a .0) n) (sym e) (spot-past v (room s) (s .pre .ordered) (s .args .a .0) (λ j h. c .before .before .loop .inv .2 j (omega (arith, c .if2 .taken, e))))
 
-mul-range-2 : tie.Need-mul-range-2 Inv-loop μ-loop
-mul-range-2 c = search needs
-
-element-copy-out-range-2 : tie.Need-element-copy-out-range-2 Inv-loop μ-loop
-element-copy-out-range-2 c = search needs
+range-at-requires-2 : tie.Need-range-at-requires-2 Inv-loop μ-loop
+range-at-requires-2 c κs =
+    let s = c .before .before .before .before .before in
+    (s .pre .words, omega (arith, c .if2 .left, c .before .before .before .count-of .ensures, s .pre .ordered .few))
 
 returns-2 : tie.Need-returns-2 Inv-loop μ-loop
 returns-2 c =
-    let s = c .before .before .before .before .before .before .before in
-    spot-between (s .args .t1) (room s) (s .pre) (c .before .before .before .before .before .before .loop .low) (s .args .a .0) (c .before .before .before .before .before .before .loop .inv .2) (c .if3 .taken)
+    let s = c .before .before .before .before .before .before .before .before .before in
+    let l = c .before .before .before .before .before .before .loop in
+    let v = viewOf (s .args .view .now) in
+    let e = ap (λ (r : FlatRange). r .first .0) (c .before .before .before .range-at2 .ensures) in
+    subst (λ (n : ℕ). Spot v (s .args .a .0) n) (sym (c .before .before .before .before .before .before .before .count-of .ensures)) (spot-between v (room s) (s .pre .ordered) (l .low) (s .args .a .0) (l .inv .2) (omega (arith, c .if3 .taken, e)))
 
 returns-3 : tie.Need-returns-3 Inv-loop μ-loop
 returns-3 c =
-    let s = c .before .before .before .before .before .before .before in
+    let s = c .before .before .before .before .before .before .before .before .before in
     let l = c .before .before .before .before .before .before .loop in
-    let h : l .low < s .args .t1 .count = c .before .before .before .before .if2 .left in
-    spot-at (s .args .t1) (room s) (s .pre) (l .low) (s .args .a .0) h (c .if3 .left) (l .inv .3 (l .low) (omega (arith, c .before .before .before .before .before .loop-test .left)) h)
+    let v = viewOf (s .args .view .now) in
+    let e = ap (λ (r : FlatRange). r .first .0) (c .before .before .before .range-at2 .ensures) in
+    let h : l .low < viewOf (s .args .view .now) .count = omega (arith, c .before .before .before .before .if2 .left, c .before .before .before .before .before .before .before .count-of .ensures) in
+    spot-at v (room s) (s .pre .ordered) (l .low) (s .args .a .0) h (omega (arith, c .if3 .left, e)) (l .inv .3 (l .low) (omega (arith, c .before .before .before .before .before .loop-test .left)) h)
 
 pub search-spec : {M : Type 1} → statement M
 search-spec =
@@ -95,18 +108,17 @@ search-spec =
     (tie.spec
     Inv-loop
     μ-loop
+    count-of-requires
     loop-holds
     sub-middle
     add-middle
-    mul-range
-    element-copy-out-range
+    range-at-requires
     add-low
     loop-less
     loop-again
     loop-less-2
     loop-again-2
     returns
-    mul-range-2
-    element-copy-out-range-2
+    range-at-requires-2
     returns-2
     returns-3)

@@ -1,73 +1,49 @@
 -- `virtqueue::memory::copy_places` meets its contract. Assumes nothing.
-use mathlib.Core.Path.{_≡_, sym, _∙_}
-use mathlib.Core.List.{map}
-use Prim.Native.Nat.{_+_, _-_, _≤_}
-use native.Mathlib.Omega.{arith}
-use lib.Seq.{sets}
-use Rattle.virtqueue.specs.Guest.{addresses}
-use Rattle.virtqueue.specs.Contracts.{placeIn}
-use Rattle.virtqueue.proofs.MemoryLaws.{byte-low, byte-in, lay-starts, lay-turn, lay-ends}
+use Prim.Native.Nat.{_^_}
+use Rattle.virtqueue.specs.Words.{viewOf}
+use Rattle.virtqueue.proofs.GuestLaws.{memory-front}
+use Rattle.virtqueue.proofs.StretchLaws.{some, runs-lay-places, runs-room, ordered-room, lay-none}
 use Rattle.virtqueue.proofs.memory.copy_places.Statement.{statement}
 use Rattle.virtqueue.proofs.memory.copy_places.Tie as tie
 
-abbrev Inv-loop : tie.InvT-loop
-Inv-loop view from addr count out₀ at₀ i₀ out at i =
-    (i ≤ count) × (sets out (from + i) (map (placeIn view) (addresses (addr .0 + i) (count - i))) ≡ sets out₀ from (map (placeIn view) (addresses (addr .0) count)))
+returns : tie.Need-returns
+returns c = lay-none _ _ _ _ _ (c .if1 .taken)
 
-abbrev μ-loop : tie.MeasureT-loop
-μ-loop view from addr count out₀ at₀ i₀ out at i = count - i
+stretch-at-requires : tie.Need-stretch-at-requires
+stretch-at-requires c κs =
+    let s = c .before .before in
+    (s .pre .0, memory-front (viewOf (s .args .view .now)) (s .args .addr .0) (s .args .count) 1 (s .pre .1 .0) (some (c .if1 .left)))
 
-loop-holds : tie.Need-loop-holds Inv-loop μ-loop
-loop-holds c = (omega arith, lay-starts _ _ _ _ _)
+sub-if2 : tie.Need-sub-if2
+sub-if2 c = some (c .before .if1 .left)
 
-add-t13 : tie.Need-add-t13 Inv-loop μ-loop
-add-t13 c =
-    let s = c .before .before .before in
-    omega (arith, byte-low (s .args .view) (s .args .addr .0) (s .args .count) (c .before .before .loop .i) (s .pre .1 .0) (c .before .loop-test .taken) (s .pre .0))
+places-from-requires : tie.Need-places-from-requires
+places-from-requires c κs =
+    let s = c .before .before .before .before .before in
+    let here = c .before .before .stretch-at in
+    let v = viewOf (s .args .view .now) in
+    (runs-room v (s .args .addr .0) (here .result .place) (here .result .left) (s .args .count) (here .ensures) (some (c .before .before .before .if1 .left)) (c .if2 .taken) (2 ^ 64) (s .pre .1 .0) (ordered-room v (s .pre .0 .ordered)), s .pre .1 .1)
 
-near-requires : tie.Need-near-requires Inv-loop μ-loop
-near-requires c κs = c .before .before .before .pre .0
+returns-2 : tie.Need-returns-2
+returns-2 c =
+    let s = c .before .before .before .before .before .before in
+    let here = c .before .before .before .stretch-at in
+    runs-lay-places (viewOf (s .args .view .now)) (s .args .addr .0) (here .result .place) (here .result .left) (s .args .count) (here .ensures) (some (c .before .before .before .before .if1 .left)) (c .before .if2 .taken) (c .places-from .result) (s .args .start) (s .args .from) (c .places-from .ensures)
 
-place-of-requires : tie.Need-place-of-requires Inv-loop μ-loop
-place-of-requires c κs =
-    let s = c .before .before .before .before in
-    (s .pre .0, (c .near .ensures, byte-in (s .args .view) (s .args .addr .0) (s .args .count) (c .before .before .before .loop .i) (s .pre .1 .0) (c .before .before .loop-test .taken)))
+places-apart-requires : tie.Need-places-apart-requires
+places-apart-requires c κs = c .before .before .before .before .before .pre
 
-add-out : tie.Need-add-out Inv-loop μ-loop
-add-out c = omega (arith, c .before .before .before .loop-test .taken, c .before .before .before .before .before .pre .1 .1)
-
-mul-out : tie.Need-mul-out Inv-loop μ-loop
-mul-out c = omega (arith, c .before .before .before .loop-test .taken, c .before .before .before .before .before .pre .1 .1)
-
-array-write-out : tie.Need-array-write-out Inv-loop μ-loop
-array-write-out c = omega (arith, c .before .before .before .loop-test .taken, c .before .before .before .before .before .pre .1 .1)
-
-add-i : tie.Need-add-i Inv-loop μ-loop
-add-i c = omega (arith, c .before .before .before .loop-test .taken, c .before .before .before .before .before .pre .1 .1)
-
-loop-less : tie.Need-loop-less Inv-loop μ-loop
-loop-less c = omega (arith, c .before .before .before .loop-test .taken)
-
-loop-again : tie.Need-loop-again Inv-loop μ-loop
-loop-again c = (omega (arith, c .before .before .before .loop-test .taken), lay-turn _ _ _ _ _ _ _ (c .place-of .ensures) (c .before .before .before .loop-test .taken) ∙ c .before .before .before .before .loop .inv .1)
-
-returns : tie.Need-returns Inv-loop μ-loop
-returns c = sym (lay-ends _ _ _ _ _ _ (c .loop-test .left)) ∙ c .before .loop .inv .1
+returns-3 : tie.Need-returns-3
+returns-3 c = c .places-apart .ensures
 
 pub copy-places-spec : {M : Type 1} → statement M
 copy-places-spec =
     tie.close
     (tie.spec
-    Inv-loop
-    μ-loop
-    loop-holds
-    add-t13
-    near-requires
-    place-of-requires
-    add-out
-    mul-out
-    array-write-out
-    add-i
-    loop-less
-    loop-again
-    returns)
+    returns
+    stretch-at-requires
+    sub-if2
+    places-from-requires
+    returns-2
+    places-apart-requires
+    returns-3)

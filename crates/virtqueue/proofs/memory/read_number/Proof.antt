@@ -1,79 +1,48 @@
 -- `virtqueue::memory::read_number` meets its contract. Assumes nothing.
-use Prim.Native.Nat.{_-_}
+use mathlib.Core.Path.{_∙_}
 use native.Mathlib.Omega.{arith}
 use lib.ListN.{length}
-use Rattle.virtqueue.specs.Contracts.{placeIn}
-use Rattle.virtqueue.proofs.MemoryLaws.{byte-low, byte-in, byte-place, Reading, reading-starts, reading-ends, reading-fits, reading-turn}
-use borrow.Author.Needs.{needs}
+use Rattle.virtqueue.specs.Words.{viewOf}
+use Rattle.virtqueue.proofs.GuestLaws.{memory-front}
+use Rattle.virtqueue.proofs.StretchLaws.{runs-number, runs-room}
 use Rattle.virtqueue.proofs.memory.read_number.Statement.{statement}
 use Rattle.virtqueue.proofs.memory.read_number.Tie as tie
 
-abbrev Inv-loop : tie.InvT-loop
-Inv-loop view mem addr bytes value₀ at₀ i₀ value at i = Reading (placeIn view) mem (addr .0) bytes value i
+stretch-at-requires : tie.Need-stretch-at-requires
+stretch-at-requires c κs =
+    let s = c .before .before in
+    (s .pre .0, memory-front (viewOf (s .args .view .now)) (s .args .addr .0) (s .args .bytes) 1 (s .pre .1 .1 .0) (s .pre .1 .1 .1 .0))
 
-abbrev μ-loop : tie.MeasureT-loop
-μ-loop view mem addr bytes value₀ at₀ i₀ value at i = i
+sub-if1 : tie.Need-sub-if1
+sub-if1 c = omega (arith, c .before .before .before .pre .1 .1 .1 .0)
 
-loop-holds : tie.Need-loop-holds Inv-loop μ-loop
-loop-holds c = reading-starts _ _ _ _
-
-sub-i : tie.Need-sub-i Inv-loop μ-loop
-sub-i c = omega arith
-
-add-value : tie.Need-add-value Inv-loop μ-loop
-add-value c =
-    let s = c .before .before .before .before in
-    let l = c .before .before .loop in
-    omega (arith, byte-low (s .args .view) (s .args .addr .0) (s .args .bytes) (l .i - 1) (s .pre .1 .1 .0) (omega (arith, l .inv .most, c .before .loop-test .taken)) (s .pre .0))
-
-near-requires : tie.Need-near-requires Inv-loop μ-loop
-near-requires c κs = c .before .before .before .before .pre .0
-
-place-of-requires : tie.Need-place-of-requires Inv-loop μ-loop
-place-of-requires c κs =
+number-from-requires : tie.Need-number-from-requires
+number-from-requires c κs =
     let s = c .before .before .before .before .before in
-    let l = c .before .before .before .loop in
-    (s .pre .0, (c .near .ensures, byte-in (s .args .view) (s .args .addr .0) (s .args .bytes) (l .i - 1) (s .pre .1 .1 .0) (omega (arith, l .inv .most, c .before .before .loop-test .taken))))
+    let here = c .before .before .stretch-at in
+    (runs-room (viewOf (s .args .view .now)) (s .args .addr .0) (here .result .place) (here .result .left) (s .args .bytes) (here .ensures) (s .pre .1 .1 .1 .0) (c .if1 .taken) (length (s .args .mem .now)) (s .pre .1 .1 .0) (s .pre .1 .0), s .pre .1 .1 .1 .1)
 
-mul-value : tie.Need-mul-value Inv-loop μ-loop
-mul-value c = omega (arith, reading-fits _ _ _ _ _ _ (c .before .before .before .before .loop .inv) (c .before .before .before .loop-test .taken) (c .before .before .before .before .before .before .pre .1 .1 .1))
+returns : tie.Need-returns
+returns c =
+    let s = c .before .before .before .before .before .before in
+    let here = c .before .before .before .stretch-at in
+    (c .number-from .ensures .0 ∙ runs-number (viewOf (s .args .view .now)) (s .args .addr .0) (here .result .place) (here .result .left) (s .args .bytes) (here .ensures) (s .pre .1 .1 .1 .0) (c .before .if1 .taken) (s .args .mem .now), c .number-from .ensures .1)
 
-shared-slice-read-wide : tie.Need-shared-slice-read-wide Inv-loop μ-loop
-shared-slice-read-wide c =
-    let s = c .before .before .before .before .before .before .before in
-    let l = c .before .before .before .before .before .loop in
-    byte-place (s .args .view) (s .args .addr .0) (s .args .bytes) (l .i - 1) (s .pre .1 .1 .0) (omega (arith, l .inv .most, c .before .before .before .before .loop-test .taken)) (length (s .args .mem .now)) (c .before .place-of .result) (s .pre .1 .0) (c .before .place-of .ensures)
+number-apart-requires : tie.Need-number-apart-requires
+number-apart-requires c κs =
+    let s = c .before .before .before .before .before in
+    (s .pre .0, (s .pre .1 .0, (s .pre .1 .1 .0, s .pre .1 .1 .1 .1)))
 
-wide-requires : tie.Need-wide-requires Inv-loop μ-loop
-wide-requires c κs = search needs
-
-add-value-2 : tie.Need-add-value-2 Inv-loop μ-loop
-add-value-2 c = omega (arith, c .wide .ensures .1, reading-fits _ _ _ _ _ _ (c .before .before .before .before .before .before .loop .inv) (c .before .before .before .before .before .loop-test .taken) (c .before .before .before .before .before .before .before .before .pre .1 .1 .1))
-
-loop-less : tie.Need-loop-less Inv-loop μ-loop
-loop-less c = omega (arith, c .before .before .before .before .before .loop-test .taken)
-
-loop-again : tie.Need-loop-again Inv-loop μ-loop
-loop-again c = reading-turn _ _ _ _ _ _ (c .before .before .before .before .before .before .loop .inv) (c .before .before .before .before .before .loop-test .taken) (c .before .before .place-of .result) _ (c .before .before .place-of .ensures) (c .wide .ensures .0) (c .wide .ensures .1)
-
-returns : tie.Need-returns Inv-loop μ-loop
-returns c = reading-ends _ _ _ _ _ _ (c .before .loop .inv) (c .loop-test .left)
+returns-2 : tie.Need-returns-2
+returns-2 c = c .number-apart .ensures
 
 pub read-number-spec : {M : Type 1} → statement M
 read-number-spec =
     tie.close
     (tie.spec
-    Inv-loop
-    μ-loop
-    loop-holds
-    sub-i
-    add-value
-    near-requires
-    place-of-requires
-    mul-value
-    shared-slice-read-wide
-    wide-requires
-    add-value-2
-    loop-less
-    loop-again
-    returns)
+    stretch-at-requires
+    sub-if1
+    number-from-requires
+    returns
+    number-apart-requires
+    returns-2)

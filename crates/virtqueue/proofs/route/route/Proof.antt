@@ -7,8 +7,9 @@ use Rattle.region_map.proofs.Bools.{and-fst, and-snd}
 use Rattle.memory_device.proofs.RuleLaws.{device-valid}
 use Rattle.memory_device.specs.Device.{deviceOk}
 use Rattle.virtqueue.specs.View.{viewOk}
+use Rattle.virtqueue.specs.Words.{viewOf}
 use Rattle.virtqueue.specs.Route.{routedWith}
-use Rattle.virtqueue.proofs.RuleLaws.{view-ordered}
+use Rattle.virtqueue.proofs.ViewWords.{view-judged}
 use Rattle.virtqueue.proofs.route.route.Statement.{statement}
 use Rattle.virtqueue.proofs.route.route.Tie as tie
 
@@ -20,12 +21,12 @@ keeps-rules-requires c κs = search needs
 
 route-judged-requires : tie.Need-route-judged-requires
 route-judged-requires c κs =
-    let s = c .before .before .before in
-    let v = viewOk (s .args .view) (s .args .memory-length) (s .args .device .«region_size») in
+    let s = c .before .before .before .before in
+    let v = viewOk (viewOf (s .args .view .now)) (s .args .memory-length) (s .args .device .«region_size») in
     let d = deviceOk (s .args .device) in
     let ok = sym (ap₂ _&&_ (c .before .before .view-ok .ensures) (c .before .keeps-rules .ensures)) ∙ c .if1 .taken in
     let valid = device-valid (s .args .device) (and-snd v d ok) in
-    (view-ordered (s .args .view) (s .args .memory-length) (s .args .device .«region_size») (and-fst v d ok) (let f = s .fits in omega arith), omega (arith, valid .least))
+    (view-judged (s .args .view .now) (s .args .memory-length) (s .args .device .«region_size») (and-fst v d ok) (let f = s .fits in omega arith), omega (arith, valid .least))
 
 returns : tie.Need-returns
 unfolding routedWith

@@ -1,94 +1,94 @@
 -- `virtqueue::rules::pairs_ok` meets its contract. Assumes nothing.
-use mathlib.Core.Path.{refl, sym, _∙_}
-use Prim.Native.Nat.{_<_}
+use mathlib.Core.Path.{sym, ap, _∙_}
+use Prim.Native.Nat.{_-_, _<_}
 use native.Mathlib.Omega.{arith}
 use lib.ListN.{getD}
 use borrow.Author.Needs.{needs}
 use Rattle.region_map.specs.ViewRules.{rangeOf}
+use Rattle.region_map.specs.declared.view.FlatRange.{FlatRange}
+use Rattle.virtqueue.specs.Words.{viewOf}
+use Rattle.virtqueue.specs.View.{agree}
 use Rattle.virtqueue.proofs.RuleLaws.{pairs-none, pairs-low, pairs-new, pairs-known}
 use Rattle.virtqueue.proofs.rules.pairs_ok.Statement.{statement}
 use Rattle.virtqueue.proofs.rules.pairs_ok.Tie as tie
 
 returns : tie.Need-returns
-returns c = sym (pairs-none (c .before .args .t1) (c .before .args .k) (c .if1 .taken))
+returns c = sym (pairs-none (viewOf (c .before .before .args .view .now)) (c .before .before .args .k) (c .if1 .taken))
 
-mul-range : tie.Need-mul-range
-mul-range c = search needs
+range-at-requires : tie.Need-range-at-requires
+range-at-requires c κs = (c .before .before .pre .0, c .before .before .pre .1 .0 .0)
 
-element-copy-out-range : tie.Need-element-copy-out-range
-element-copy-out-range c = c .before .pre .0 .0
+sub-range-at : tie.Need-sub-range-at
+sub-range-at c = omega (arith, c .before .if1 .left)
 
-sub-before : tie.Need-sub-before
-sub-before c = search needs
-
-mul-before : tie.Need-mul-before
-mul-before c = search needs
-
-element-copy-out-before : tie.Need-element-copy-out-before
-element-copy-out-before c = search needs
+range-at-requires-2 : tie.Need-range-at-requires-2
+range-at-requires-2 c κs = (c .before .before .before .pre .0, omega (arith, c .before .before .before .pre .1 .0 .0))
 
 returns-2 : tie.Need-returns-2
 returns-2 c =
-    let s = c .before .before .before .before .before in
-    let p : 0 < s .before .args .k = omega (arith, s .if1 .left) in
-    sym (pairs-low (s .before .args .t1) (s .before .args .k) p (c .if2 .taken))
+    let s = c .before .before .before .before .before .before .before in
+    let h = ap (λ (r : FlatRange). r .first .0) (c .before .before .before .before .range-at .ensures) in
+    let b = ap (λ (r : FlatRange). r .last .0) (c .before .before .before .range-at2 .ensures) in
+    sym (pairs-low (viewOf (s .args .view .now)) (s .args .k) (omega (arith, c .before .before .before .before .before .if1 .left)) (omega (arith, c .if2 .taken, h, b)))
+
+-- the range's own region is one of 32
+small : (c : tie.After-range-at) → c .range-at .result .region < 32
+small c = omega (arith, ap (λ (r : FlatRange). r .region) (c .range-at .ensures), c .before .before .before .pre .1 .0 .1)
 
 mul-first : tie.Need-mul-first
-mul-first c = omega (arith, c .before .before .before .before .before .before .pre .0 .1)
+mul-first c = omega (arith, small (c .before .before .before .before))
 
 array-read-first : tie.Need-array-read-first
-array-read-first c = omega (arith, c .before .before .before .before .before .before .pre .0 .1)
+array-read-first c = small (c .before .before .before .before)
+
+-- the range lies above the one before it
+above : (c : tie.Else2) → rangeOf (viewOf (c .before .before .before .before .before .before .before .args .view .now)) (c .before .before .before .before .before .before .before .args .k - 1) .last .0 < rangeOf (viewOf (c .before .before .before .before .before .before .before .args .view .now)) (c .before .before .before .before .before .before .before .args .k) .first .0
+above c =
+    omega (arith, c .if2 .left, ap (λ (r : FlatRange). r .first .0) (c .before .before .before .before .range-at .ensures), ap (λ (r : FlatRange). r .last .0) (c .before .before .before .range-at2 .ensures))
 
 returns-3 : tie.Need-returns-3
 returns-3 c =
-    let s = c .before .before .before .before .before .before .before in
-    sym (pairs-new (s .args .t1) (s .args .k) (s .pre .1 .1 .0) (s .pre .1 .1 .1) (c .before .if2 .left) (s .args .t2) (s .pre .1 .0) (rangeOf (s .args .t1) (s .args .k) .region) refl
-    (omega (arith, s .pre .0 .1)) (c .if3 .taken))
+    let s = c .before .before .before .before .before .before .before .before in
+    let r = c .before .before .before .before .before in
+    sym (pairs-new (viewOf (s .args .view .now)) (s .args .k) (s .pre .1 .1 .1 .0) (s .pre .1 .1 .1 .1) (above (c .before)) (s .args .t2) (s .pre .1 .1 .0) (r .range-at .result .region)
+    (sym (ap (λ (x : FlatRange). x .region) (r .range-at .ensures))) (small r) (c .if3 .taken))
 
-sub-other : tie.Need-sub-other
-sub-other c = omega (arith, c .if3 .left)
+sub-range-at-2 : tie.Need-sub-range-at-2
+sub-range-at-2 c = omega (arith, c .if3 .left)
 
-mul-other : tie.Need-mul-other
-mul-other c =
-    let s = c .before .before .before .before .before .before .before in
-    let n = rangeOf (s .args .t1) (s .args .k) .region in
-    let p : 0 < getD (s .args .t2) n 0 = omega (arith, c .if3 .left) in
-    omega (arith, s .pre .0 .0, s .pre .1 .0 .known n (omega (arith, s .pre .0 .1)) p)
-
-element-copy-out-other : tie.Need-element-copy-out-other
-element-copy-out-other c =
-    let s = c .before .before .before .before .before .before .before in
-    let n = rangeOf (s .args .t1) (s .args .k) .region in
-    let p : 0 < getD (s .args .t2) n 0 = omega (arith, c .if3 .left) in
-    omega (arith, s .pre .0 .0, s .pre .1 .0 .known n (omega (arith, s .pre .0 .1)) p)
+range-at-requires-3 : tie.Need-range-at-requires-3
+range-at-requires-3 c κs =
+    let s = c .before .before .before .before .before .before .before .before in
+    let n = c .before .before .before .before .before .range-at .result .region in
+    (s .pre .0, omega (arith, s .pre .1 .0 .0, s .pre .1 .1 .0 .known n (small (c .before .before .before .before .before)) (omega (arith, c .if3 .left))))
 
 agrees-requires : tie.Need-agrees-requires
 agrees-requires c κs = search needs
 
 returns-4 : tie.Need-returns-4
 returns-4 c =
-    let s = c .before .before .before .before .before .before .before .before .before in
-    let n = rangeOf (s .args .t1) (s .args .k) .region in
-    let p : 0 < getD (s .args .t2) n 0 = omega (arith, c .before .before .if3 .left) in
-    c .agrees .ensures
-    ∙ pairs-known (s .args .t1) (s .args .k) (s .pre .1 .1 .0) (s .pre .1 .1 .1) (c .before .before .before .if2 .left) (s .args .t2) (s .pre .1 .0) n refl (omega (arith, s .pre .0 .1)) p
+    let s = c .before .before .before .before .before .before .before .before .before .before in
+    let r = c .before .before .before .before .before .before .before in
+    let v = viewOf (s .args .view .now) in
+    let n = r .range-at .result .region in
+    c .agrees .ensures ∙ ap (λ (x : FlatRange). agree x (r .range-at .result)) (c .before .range-at3 .ensures)
+    ∙ ap (agree (rangeOf v (getD (s .args .t2) n 0 - 1))) (r .range-at .ensures)
+    ∙ pairs-known v (s .args .k) (s .pre .1 .1 .1 .0) (s .pre .1 .1 .1 .1) (above (c .before .before .before)) (s .args .t2) (s .pre .1 .1 .0) n
+    (sym (ap (λ (x : FlatRange). x .region) (r .range-at .ensures))) (small r) (omega (arith, c .before .before .if3 .left))
 
 pub pairs-ok-spec : {M : Type 1} → statement M
 pairs-ok-spec =
     tie.close
     (tie.spec
     returns
-    mul-range
-    element-copy-out-range
-    sub-before
-    mul-before
-    element-copy-out-before
+    range-at-requires
+    sub-range-at
+    range-at-requires-2
     returns-2
     mul-first
     array-read-first
     returns-3
-    sub-other
-    mul-other
-    element-copy-out-other
+    sub-range-at-2
+    range-at-requires-3
     agrees-requires
     returns-4)

@@ -1,5 +1,5 @@
 -- `virtqueue::rules::view_ok` meets its contract. Assumes nothing.
-use mathlib.Core.Path.{_≡_, refl, sym, _∙_, subst}
+use mathlib.Core.Path.{_≡_, refl, sym, ap, _∙_, subst}
 use mathlib.Core.Bool.{true}
 use mathlib.Core.Logic.{⊎-elim}
 use mathlib.Core.List.{List}
@@ -9,89 +9,108 @@ use lib.ListN.{length, length-set}
 use borrow.Author.Needs.{needs}
 use borrow.Author.Tests.{not-true, not-false}
 use Rattle.region_map.specs.ViewRules.{rangeOf}
+use Rattle.region_map.specs.declared.view.FlatRange.{FlatRange}
 use Rattle.memory_device.specs.Table.{allBelow}
 use Rattle.memory_device.proofs.TableLaws.{all-of}
-use Rattle.virtqueue.specs.View.{entryOk}
+use Rattle.virtqueue.specs.Words.{viewOf}
+use Rattle.virtqueue.specs.View.{rangeOk, entryOk}
 use Rattle.virtqueue.specs.Contracts.{Owners}
 use Rattle.virtqueue.proofs.RuleLaws.{range-facts, owners-none, owners-known, owners-new, all-next, view-many, view-not, view-of, entry-no-range, entry-no-pairs, entry-of, entries-ascend, entries-order}
+use Rattle.virtqueue.proofs.WordLaws.{refused-other}
 use Rattle.virtqueue.proofs.rules.view_ok.Statement.{statement}
 use Rattle.virtqueue.proofs.rules.view_ok.Tie as tie
 
 abbrev Inv-loop : tie.InvT-loop
-Inv-loop memory region view count owner₀ k₀ owner k = (k ≤ count) × (count ≤ 256) × (allBelow (entryOk view memory region) k ≡ true) × Owners view k owner × (length owner ≡ 32)
+Inv-loop view memory region count owner₀ k₀ owner k =
+    (k ≤ count) × (count ≤ 256) × (allBelow (entryOk (viewOf view) memory region) k ≡ true) × Owners (viewOf view) k owner × (length owner ≡ 32)
 
 abbrev μ-loop : tie.MeasureT-loop
-μ-loop memory region view count owner₀ k₀ owner k = count - k
+μ-loop view memory region count owner₀ k₀ owner k = count - k
 
 returns : tie.Need-returns Inv-loop μ-loop
-returns c = sym (view-many (c .before .args .t1) (c .before .args .memory) (c .before .args .region) (c .if1 .taken))
+returns c = let a = c .before .before .args in sym (refused-other (a .view .now) (λ e. omega (arith, c .if1 .taken, e)) (a .memory) (a .region))
+
+count-of-requires : tie.Need-count-of-requires Inv-loop μ-loop
+count-of-requires c κs = omega (arith, c .if1 .left)
+
+returns-2 : tie.Need-returns-2 Inv-loop μ-loop
+returns-2 c =
+    let a = c .before .before .before .before .args in
+    sym (view-many (viewOf (a .view .now)) (a .memory) (a .region) (omega (arith, c .if2 .taken, c .before .count-of .ensures)))
 
 loop-holds : tie.Need-loop-holds Inv-loop μ-loop
 loop-holds c =
-    let a = c .before .args in
-    (omega arith, c .if1 .left, all-of (entryOk (a .t1) (a .memory) (a .region)) 0 (λ b h. absurd (omega arith)), owners-none (a .t1), refl)
+    let a = c .before .before .before .before .args in
+    let v = viewOf (a .view .now) in
+    (omega arith, c .if2 .left, all-of (entryOk v (a .memory) (a .region)) 0 (λ b h. absurd (omega arith)), owners-none v, refl)
 
-mul-range : tie.Need-mul-range Inv-loop μ-loop
-mul-range c = omega (arith, c .loop-test .taken, c .before .loop .inv .1)
-
-element-copy-out-range : tie.Need-element-copy-out-range Inv-loop μ-loop
-element-copy-out-range c = omega (arith, c .loop-test .taken, c .before .loop .inv .1)
+range-at-requires : tie.Need-range-at-requires Inv-loop μ-loop
+range-at-requires c κs = (omega (arith, c .before .before .before .before .if1 .left), omega (arith, c .loop-test .taken, c .before .loop .inv .1))
 
 range-ok-requires : tie.Need-range-ok-requires Inv-loop μ-loop
 range-ok-requires c κs = search needs
 
-returns-2 : tie.Need-returns-2 Inv-loop μ-loop
-returns-2 c =
-    let a = c .before .before .before .before .before .before .args in
-    let k = c .before .before .before .before .loop .k in
-    sym (view-not (a .t1) (a .memory) (a .region) k (c .before .before .before .loop-test .taken)
-    (entry-no-range (a .t1) (a .memory) (a .region) k (sym (c .before .range-ok .ensures) ∙ not-true (c .before .range-ok .result) (c .if2 .taken))))
+-- what was judged of the range at k
+judged : (c : tie.After-range-ok Inv-loop μ-loop) → c .range-ok .result ≡ rangeOk (c .before .before .before .before .before .before .before .before .args .memory) (c .before .before .before .before .before .before .before .before .args .region) (rangeOf (viewOf (c .before .before .before .before .before .before .before .before .args .view .now)) (c .before .before .before .loop .k))
+judged c = c .range-ok .ensures ∙ ap (rangeOk (c .before .before .before .before .before .before .before .before .args .memory) (c .before .before .before .before .before .before .before .before .args .region)) (c .before .range-at .ensures)
 
-pairs-ok-requires : tie.Need-pairs-ok-requires Inv-loop μ-loop
-pairs-ok-requires c κs =
-    let s = c .before .before .before .before in
-    let a = s .before .before .args in
-    let l = s .loop in
-    let f = range-facts (a .memory) (a .region) (rangeOf (a .t1) (l .k)) (sym (c .before .range-ok .ensures) ∙ not-false (c .before .range-ok .result) (c .if2 .left)) in
-    ((omega (arith, c .before .before .before .loop-test .taken, l .inv .1), f .number), (l .inv .3, (entries-ascend (a .t1) (a .memory) (a .region) (l .k) (l .inv .2), entries-order (a .t1) (a .memory) (a .region) (l .k) (l .inv .2))))
+-- k is below the view's count
+inside : (c : tie.In-loop Inv-loop μ-loop) → c .before .loop .k < viewOf (c .before .before .before .before .before .before .args .view .now) .count
+inside c = omega (arith, c .loop-test .taken, c .before .before .before .count-of .ensures)
 
 returns-3 : tie.Need-returns-3 Inv-loop μ-loop
 returns-3 c =
-    let a = c .before .before .before .before .before .before .before .before .args in
+    let a = c .before .before .before .before .before .before .before .before .before .args in
+    let v = viewOf (a .view .now) in
+    let k = c .before .before .before .before .loop .k in
+    sym (view-not v (a .memory) (a .region) k (inside (c .before .before .before))
+    (entry-no-range v (a .memory) (a .region) k (sym (judged (c .before)) ∙ not-true (c .before .range-ok .result) (c .if3 .taken))))
+
+good : (c : tie.Else3 Inv-loop μ-loop) → rangeOk (c .before .before .before .before .before .before .before .before .before .args .memory) (c .before .before .before .before .before .before .before .before .before .args .region) (rangeOf (viewOf (c .before .before .before .before .before .before .before .before .before .args .view .now)) (c .before .before .before .before .loop .k)) ≡ true
+good c = sym (judged (c .before)) ∙ not-false (c .before .range-ok .result) (c .if3 .left)
+
+pairs-ok-requires : tie.Need-pairs-ok-requires Inv-loop μ-loop
+pairs-ok-requires c κs =
+    let a = c .before .before .before .before .before .before .before .before .before .args in
+    let v = viewOf (a .view .now) in
+    let l = c .before .before .before .before .loop in
+    let f = range-facts (a .memory) (a .region) (rangeOf v (l .k)) (good c) in (
+      omega (arith, c .before .before .before .before .before .before .before .if1 .left),
+      (
+        (omega (arith, c .before .before .before .loop-test .taken, l .inv .1), f .number),
+        (l .inv .3, (entries-ascend v (a .memory) (a .region) (l .k) (l .inv .2), entries-order v (a .memory) (a .region) (l .k) (l .inv .2))),
+      ),
+    )
+
+returns-4 : tie.Need-returns-4 Inv-loop μ-loop
+returns-4 c =
+    let a = c .before .before .before .before .before .before .before .before .before .before .before .args in
+    let v = viewOf (a .view .now) in
     let k = c .before .before .before .before .before .before .loop .k in
-    sym (view-not (a .t1) (a .memory) (a .region) k (c .before .before .before .before .before .loop-test .taken)
-    (entry-no-pairs (a .t1) (a .memory) (a .region) k (sym (c .before .pairs-ok .ensures) ∙ not-true (c .before .pairs-ok .result) (c .if3 .taken))))
+    sym (view-not v (a .memory) (a .region) k (inside (c .before .before .before .before .before))
+    (entry-no-pairs v (a .memory) (a .region) k (sym (c .before .pairs-ok .ensures) ∙ not-true (c .before .pairs-ok .result) (c .if4 .taken))))
 
-mul-if4 : tie.Need-mul-if4 Inv-loop μ-loop
-mul-if4 c =
-    let s = c .before .before .before .before .before .before in
-    let a = s .before .before .args in
-    let f = range-facts (a .memory) (a .region) (rangeOf (a .t1) (s .loop .k)) (sym (c .before .before .before .range-ok .ensures) ∙ not-false (c .before .before .before .range-ok .result) (c .before .before .if2 .left)) in
-    omega (arith, f .number)
+-- the range's region is one of 32
+small : (c : tie.Else3 Inv-loop μ-loop) → c .before .before .range-at .result .region < 32
+small c =
+    let a = c .before .before .before .before .before .before .before .before .before .args in
+    let f = range-facts (a .memory) (a .region) (rangeOf (viewOf (a .view .now)) (c .before .before .before .before .loop .k)) (good c) in
+    omega (arith, f .number, ap (λ (r : FlatRange). r .region) (c .before .before .range-at .ensures))
 
-array-read-if4 : tie.Need-array-read-if4 Inv-loop μ-loop
-array-read-if4 c =
-    let s = c .before .before .before .before .before .before in
-    let a = s .before .before .args in
-    let f = range-facts (a .memory) (a .region) (rangeOf (a .t1) (s .loop .k)) (sym (c .before .before .before .range-ok .ensures) ∙ not-false (c .before .before .before .range-ok .result) (c .before .before .if2 .left)) in
-    omega (arith, f .number)
+mul-if5 : tie.Need-mul-if5 Inv-loop μ-loop
+mul-if5 c = omega (arith, small (c .before .before))
+
+array-read-if5 : tie.Need-array-read-if5 Inv-loop μ-loop
+array-read-if5 c = small (c .before .before)
 
 add-owner : tie.Need-add-owner Inv-loop μ-loop
 add-owner c = omega (arith, c .before .before .before .before .before .before .loop-test .taken, c .before .before .before .before .before .before .before .loop .inv .1)
 
 mul-owner : tie.Need-mul-owner Inv-loop μ-loop
-mul-owner c =
-    let s = c .before .before .before .before .before .before .before in
-    let a = s .before .before .args in
-    let f = range-facts (a .memory) (a .region) (rangeOf (a .t1) (s .loop .k)) (sym (c .before .before .before .before .range-ok .ensures) ∙ not-false (c .before .before .before .before .range-ok .result) (c .before .before .before .if2 .left)) in
-    omega (arith, f .number)
+mul-owner c = omega (arith, small (c .before .before .before))
 
 array-write-owner : tie.Need-array-write-owner Inv-loop μ-loop
-array-write-owner c =
-    let s = c .before .before .before .before .before .before .before in
-    let a = s .before .before .args in
-    let f = range-facts (a .memory) (a .region) (rangeOf (a .t1) (s .loop .k)) (sym (c .before .before .before .before .range-ok .ensures) ∙ not-false (c .before .before .before .before .range-ok .result) (c .before .before .before .if2 .left)) in
-    omega (arith, f .number)
+array-write-owner c = small (c .before .before .before)
 
 add-k : tie.Need-add-k Inv-loop μ-loop
 add-k c = omega (arith, c .before .before .before .before .before .before .loop-test .taken, c .before .before .before .before .before .before .before .loop .inv .1)
@@ -101,30 +120,29 @@ loop-less c = omega (arith, c .before .before .before .before .before .before .l
 
 loop-again : tie.Need-loop-again Inv-loop μ-loop
 loop-again c =
-    let s = c .before .before .before .before .before .before .before in
-    let a = s .before .before .args in
-    let l = s .loop in
+    let a = c .before .before .before .before .before .before .before .before .before .before .before .before .args in
+    let v = viewOf (a .view .now) in
+    let l = c .before .before .before .before .before .before .before .loop in
     let k = l .k in
-    let r = sym (c .before .before .before .before .range-ok .ensures) ∙ not-false (c .before .before .before .before .range-ok .result) (c .before .before .before .if2 .left) in
-    let p = sym (c .before .before .pairs-ok .ensures) ∙ not-false (c .before .before .pairs-ok .result) (c .before .if3 .left) in
-    let n = rangeOf (a .t1) k .region in
-    let f = range-facts (a .memory) (a .region) (rangeOf (a .t1) k) r in
-    let small : n < 32 = omega (arith, f .number) in
-    let owners : Owners (a .t1) (k + 1) (c .if4 .owner) × (length (c .if4 .owner) ≡ 32) =
+    let p = sym (c .before .before .pairs-ok .ensures) ∙ not-false (c .before .before .pairs-ok .result) (c .before .if4 .left) in
+    let n = c .before .before .before .before .before .range-at .result .region in
+    let same = sym (ap (λ (r : FlatRange). r .region) (c .before .before .before .before .before .range-at .ensures)) in
+    let owners : Owners v (k + 1) (c .if5 .owner) × (length (c .if5 .owner) ≡ 32) =
     ⊎-elim
-    (λ w. subst (λ (t : List ℕ). Owners (a .t1) (k + 1) t × (length t ≡ 32)) (sym (w .1))
-    (owners-new (a .t1) k (l .owner) (l .inv .3) n refl small p (l .inv .4) (w .0 .taken), length-set (l .owner) n (k + 1) ∙ l .inv .4))
-    (λ w. subst (λ (t : List ℕ). Owners (a .t1) (k + 1) t × (length t ≡ 32)) (sym (w .1))
-    (owners-known (a .t1) k (l .owner) (l .inv .3) n refl small p (omega (arith, w .0 .left)), l .inv .4))
-    (c .if4 .came) in
-    (omega (arith, c .before .before .before .before .before .before .loop-test .taken), l .inv .1, all-next (entryOk (a .t1) (a .memory) (a .region)) k (l .inv .2) (entry-of (a .t1) (a .memory) (a .region) k r p), owners .0, owners .1)
+    (λ w. subst (λ (t : List ℕ). Owners v (k + 1) t × (length t ≡ 32)) (sym (w .1))
+    (owners-new v k (l .owner) (l .inv .3) n same (small (c .before .before .before)) p (l .inv .4) (w .0 .taken), length-set (l .owner) n (k + 1) ∙ l .inv .4))
+    (λ w. subst (λ (t : List ℕ). Owners v (k + 1) t × (length t ≡ 32)) (sym (w .1))
+    (owners-known v k (l .owner) (l .inv .3) n same (small (c .before .before .before)) p (omega (arith, w .0 .left)), l .inv .4))
+    (c .if5 .came) in
+    (omega (arith, c .before .before .before .before .before .before .loop-test .taken), l .inv .1, all-next (entryOk v (a .memory) (a .region)) k (l .inv .2) (entry-of v (a .memory) (a .region) k (good (c .before .before .before)) p), owners .0, owners .1)
 
-returns-4 : tie.Need-returns-4 Inv-loop μ-loop
-returns-4 c =
-    let a = c .before .before .before .args in
+returns-5 : tie.Need-returns-5 Inv-loop μ-loop
+returns-5 c =
+    let a = c .before .before .before .before .before .before .args in
+    let v = viewOf (a .view .now) in
     let l = c .before .loop in
-    let e : l .k ≡ a .t1 .count = omega (arith, l .inv .0, c .loop-test .left) in
-    sym (view-of (a .t1) (a .memory) (a .region) (l .inv .1) (subst (λ (n : ℕ). allBelow (entryOk (a .t1) (a .memory) (a .region)) n ≡ true) e (l .inv .2)))
+    let e : l .k ≡ viewOf (a .view .now) .count = omega (arith, l .inv .0, c .loop-test .left, c .before .before .before .count-of .ensures) in
+    sym (view-of v (a .memory) (a .region) (omega (arith, l .inv .1, c .before .before .before .count-of .ensures)) (subst (λ (n : ℕ). allBelow (entryOk v (a .memory) (a .region)) n ≡ true) e (l .inv .2)))
 
 pub view-ok-spec : {M : Type 1} → statement M
 view-ok-spec =
@@ -133,19 +151,20 @@ view-ok-spec =
     Inv-loop
     μ-loop
     returns
-    loop-holds
-    mul-range
-    element-copy-out-range
-    range-ok-requires
+    count-of-requires
     returns-2
-    pairs-ok-requires
+    loop-holds
+    range-at-requires
+    range-ok-requires
     returns-3
-    mul-if4
-    array-read-if4
+    pairs-ok-requires
+    returns-4
+    mul-if5
+    array-read-if5
     add-owner
     mul-owner
     array-write-owner
     add-k
     loop-less
     loop-again
-    returns-4)
+    returns-5)

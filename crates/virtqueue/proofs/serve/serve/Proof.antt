@@ -8,17 +8,17 @@ respond-to-requires : tie.Need-respond-to-requires
 respond-to-requires c κs = tt
 
 used-places-requires : tie.Need-used-places-requires
-used-places-requires c κs = let p = c .before .before .before .before .before .before .pre in (p .0, (p .1 .1 .0, p .1 .1 .1 .0))
+used-places-requires c κs = let p = c .before .before .before .before .before .before .before .pre in (p .0, (p .1 .1 .0, p .1 .1 .1 .0))
 
 used-bytes-requires : tie.Need-used-bytes-requires
-used-bytes-requires c κs = c .before .before .before .before .before .before .before .pre .1 .1 .1 .1 .1 .1
+used-bytes-requires c κs = c .before .before .before .before .before .before .before .before .pre .1 .1 .1 .1 .1 .1
 
 write-bytes-requires : tie.Need-write-bytes-requires
-write-bytes-requires c κs = c .before .before .before .before .before .before .before .before .before .pre .1 .1 .1 .1 .1 .0
+write-bytes-requires c κs = c .before .before .before .before .before .before .before .before .before .before .pre .1 .1 .1 .1 .1 .0
 
 write-bytes-requires-2 : tie.Need-write-bytes-requires-2
 write-bytes-requires-2 c κs =
-    let p = c .before .before .before .before .before .before .before .before .before .before .before .before .before .pre in
+    let p = c .before .before .before .before .before .before .before .before .before .before .before .before .before .before .pre in
     within-moved _ _ _ _ (c .before .before .before .before .before .before .used-places .ensures) (c .before .before .before .write-bytes .kept .0) (used-within _ _ _ (p .1 .1 .1 .1 .0) (p .1 .1 .1 .0))
 
 advanced-requires : tie.Need-advanced-requires
@@ -31,7 +31,7 @@ returns : tie.Need-returns
 returns c =
     let b = c .before .before .before .before .before .before .before in
     let a = b .before .before .before .before .before .before in
-    let s = a .before .before .before .before in
+    let s = a .before .before .before .before .before in
     let d = s .args .device in
     let q = s .args .queue in
     let r = s .args .chain .request in

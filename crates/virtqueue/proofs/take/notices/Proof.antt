@@ -3,6 +3,7 @@ use mathlib.Core.Path.{_≡_, sym, _∙_}
 use mathlib.Core.Bool.{true}
 use native.Mathlib.Omega.{arith}
 use borrow.Author.Tests.{not-true, not-false}
+use Rattle.virtqueue.specs.Words.{viewOf}
 use Rattle.virtqueue.specs.Guest.{byView, allReach}
 use Rattle.virtqueue.specs.Queue.{distance}
 use Rattle.virtqueue.specs.Contracts.{InMemory}
@@ -12,31 +13,34 @@ use Rattle.virtqueue.proofs.TakeLaws.{distance-is, notices-out, notices
 use Rattle.virtqueue.proofs.take.notices.Statement.{statement}
 use Rattle.virtqueue.proofs.take.notices.Tie as tie
 
+near-requires : tie.Need-near-requires
+near-requires c κs = c .before .before .before .pre .0
+
 reaches-requires : tie.Need-reaches-requires
-reaches-requires c κs = (c .before .before .pre .0, c .before .before .pre .1 .1 .0)
+reaches-requires c κs = (c .before .before .before .before .pre .0, c .before .before .before .before .pre .1 .1 .0)
 
 returns : tie.Need-returns
 returns c = notices-out _ _ _ (sym (c .before .reaches .ensures) ∙ not-true _ (c .if1 .taken))
 
 -- the four bytes of flags and idx are reachable, and so in the memory
-ahead : (c : tie.Else1) → allReach (byView (c .before .before .before .before .args .view) (c .before .before .before .before .args .device) .reach) (c .before .before .before .before .args .queue .available .0) 4 ≡ true
+ahead : (c : tie.Else1) → allReach (byView (viewOf (c .before .before .before .before .before .before .args .view .now)) (c .before .before .before .before .before .before .args .device) .reach) (c .before .before .before .before .before .before .args .queue .available .0) 4 ≡ true
 ahead c = sym (c .before .reaches .ensures) ∙ not-false _ (c .if1 .left)
 
-in-memory : (c : tie.Else1) → InMemory (c .before .before .before .before .args .view) (c .before .before .before .before .args .queue .available .0) 4
-in-memory c = all-memory (c .before .before .before .before .args .view) (c .before .before .before .before .args .device) (c .before .before .before .before .args .queue .available .0) 4 (ahead c)
+in-memory : (c : tie.Else1) → InMemory (viewOf (c .before .before .before .before .before .before .args .view .now)) (c .before .before .before .before .before .before .args .queue .available .0) 4
+in-memory c = all-memory (viewOf (c .before .before .before .before .before .before .args .view .now)) (c .before .before .before .before .before .before .args .device) (c .before .before .before .before .before .before .args .queue .available .0) 4 (ahead c)
 
 read-number-requires : tie.Need-read-number-requires
 read-number-requires c κs =
-    let s = c .before .before .before .before in
-    (s .pre .0, (s .pre .1 .0, (memory-front (s .args .view) (s .args .queue .available .0) 4 2 (in-memory c) (omega arith), omega arith)))
+    let s = c .before .before .before .before .before .before in
+    (s .pre .0, (s .pre .1 .0, (memory-front (viewOf (s .args .view .now)) (s .args .queue .available .0) 4 2 (in-memory c) (omega arith), (omega arith, omega arith))))
 
-add-t12 : tie.Need-add-t12
-add-t12 c = omega (arith, queue-facts (c .before .before .before .before .before .before .args .queue) (c .before .before .before .before .before .before .pre .1 .1 .1) .available)
+add-t14 : tie.Need-add-t14
+add-t14 c = omega (arith, queue-facts (c .before .before .before .before .before .before .before .before .args .queue) (c .before .before .before .before .before .before .before .before .pre .1 .1 .1) .available)
 
 read-number-requires-2 : tie.Need-read-number-requires-2
 read-number-requires-2 c κs =
-    let s = c .before .before .before .before .before .before in
-    (s .pre .0, (s .pre .1 .0, (memory-part (s .args .view) (s .args .queue .available .0) 4 2 2 (in-memory (c .before .before)) (omega arith), omega arith)))
+    let s = c .before .before .before .before .before .before .before .before in
+    (s .pre .0, (s .pre .1 .0, (memory-part (viewOf (s .args .view .now)) (s .args .queue .available .0) 4 2 2 (in-memory (c .before .before)) (omega arith), (omega arith, omega arith))))
 
 cast-idx : tie.Need-cast-idx
 cast-idx c = omega (arith, c .read-number2 .ensures .1)
@@ -48,7 +52,7 @@ wrapping-sub-u16-requires : tie.Need-wrapping-sub-u16-requires
 wrapping-sub-u16-requires c κs = tt
 
 -- the distance of the indices
-apart : (c : tie.After-wrapping-sub-u16) → c .wrapping-sub-u16 .result ≡ distance (c .before .before .before .read-number2 .result) (c .before .before .before .before .before .before .before .before .before .before .args .queue .«next_available»)
+apart : (c : tie.After-wrapping-sub-u16) → c .wrapping-sub-u16 .result ≡ distance (c .before .before .before .read-number2 .result) (c .before .before .before .before .before .before .before .before .before .before .before .before .args .queue .«next_available»)
 apart c =
     distance-is _ _ _ (omega (arith, c .wrapping-sub-u16 .ok)) (omega (arith, c .before .before .before .read-number2 .ensures .1)) (omega (arith, c .before .before .struct-known2 .given)) (c .wrapping-sub-u16 .ensures)
 
@@ -62,10 +66,11 @@ pub notices-spec : {M : Type 1} → statement M
 notices-spec =
     tie.close
     (tie.spec
+    near-requires
     reaches-requires
     returns
     read-number-requires
-    add-t12
+    add-t14
     read-number-requires-2
     cast-idx
     returns-2

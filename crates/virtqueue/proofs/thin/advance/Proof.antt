@@ -1,5 +1,5 @@
--- `virtqueue::thin::advance` meets its contract: a walk of its MIR, by hand. The borrow of each record that is lent is opened; the records are copied out and passed to `step::step` with the slice, at the slice's own lifetime, share and ghost name (it is given up for good, `gave-slice`); what `step::step` returned is stored, each record whole, and the borrows are closed at what was stored.
--- All that the proof knows of `step::step` is that it meets its contract.
+-- `virtqueue::thin::advance` meets its contract: a walk of its MIR, by hand. The borrow of each record that is lent is opened; the records are copied out and passed to `step::step_with` with the slice, at the slice's own lifetime, share and ghost name (it is given up for good, `gave-slice`); what `step::step_with` returned is stored, each record whole, and the borrows are closed at what was stored.
+-- All that the proof knows of `step::step_with` is that it meets its contract.
 -- Assumes nothing.
 use mathlib.Core.Path.{_≡_, refl, ap}
 use Prim.Native.Nat.{ℕ}
@@ -56,10 +56,10 @@ use Rattle.region_map.proofs.view.FlatView as FlatViewT
 use Rattle.region_map.proofs.view.FlatView.Laws as FlatViewL
 use Rattle.memory_device.proofs.device.MemoryDevice as MemoryDeviceT
 use Rattle.memory_device.proofs.device.MemoryDevice.Laws as MemoryDeviceL
-use Rattle.virtqueue.proofs.step.step as callee
-use Rattle.virtqueue.proofs.step.step.Symbol as callee-def
-use Rattle.virtqueue.proofs.step.step.Symbol.{name as #callee}
-use Rattle.virtqueue.proofs.step.step.Met as callee-thm
+use Rattle.virtqueue.proofs.step.step_with as callee
+use Rattle.virtqueue.proofs.step.step_with.Symbol as callee-def
+use Rattle.virtqueue.proofs.step.step_with.Symbol.{name as #callee}
+use Rattle.virtqueue.proofs.step.step_with.Met as callee-thm
 use Rattle.virtqueue.proofs.thin.advance.Key.{name as #thin}
 use Rattle.virtqueue.proofs.thin.advance as thin
 use Rattle.virtqueue.proofs.thin.advance.Statement as stated
@@ -156,4 +156,4 @@ advance-spec 𝓤 H 𝓜 𝓖 𝓡 =
     entered 𝓤 H (tripleOf 𝓤 H (𝓖 .A) thin.signature (thin.spec 𝓤 H (𝓖 .A) (𝓜 .mem) (𝓡 .run)))
     (tables 𝓤 H 𝓜 𝓡 code.env .C) (tables 𝓤 H 𝓜 𝓡 code.env .Λ) #thin code.function (code.unfolded 𝓤 H 𝓜 𝓡)
     (thin-meets 𝓤 H (𝓖 .A) (givenOf 𝓤 H 𝓜 𝓖) (𝓜 .mem) (𝓡 .run) (tablesOf 𝓤 H 𝓜 (tables 𝓤 H 𝓜 𝓡 code.env))
-    (cited 𝓤 H (Callee 𝓤 H (𝓖 .A) (𝓜 .mem) (𝓡 .run)) 𝓜 𝓡 code.env #callee callee-def.routine code.calls-virtqueue·step·step (callee-thm.met 𝓤 H 𝓜 𝓖 𝓡)))
+    (cited 𝓤 H (Callee 𝓤 H (𝓖 .A) (𝓜 .mem) (𝓡 .run)) 𝓜 𝓡 code.env #callee callee-def.routine code.calls-virtqueue·step·step-with (callee-thm.met 𝓤 H 𝓜 𝓖 𝓡)))

@@ -7,20 +7,15 @@ use Rattle.wicktumble.proofs.queues.wt_step.Tie as tie
 records-fit-requires : tie.Need-records-fit-requires
 records-fit-requires c κs = tt
 
-view-of-requires : tie.Need-view-of-requires
-view-of-requires c κs =
-    let a = c .before .before .before .before .before .before .before .before .before .before .args in
-    fits (a .view .now) (a .device .now) (a .queue .now) (a .result .now) (c .before .records-fit .ensures) (c .if1 .taken) .0
-
 device-of-requires : tie.Need-device-of-requires
 device-of-requires c κs =
-    let s = c .before .before in
+    let s = c .before in
     let a = s .before .before .before .before .before .before .before .before .before .before .args in
     fits (a .view .now) (a .device .now) (a .queue .now) (a .result .now) (s .before .records-fit .ensures) (s .if1 .taken) .1
 
 queue-of-requires : tie.Need-queue-of-requires
 queue-of-requires c κs =
-    let s = c .before .before .before .before in
+    let s = c .before .before .before in
     let a = s .before .before .before .before .before .before .before .before .before .before .args in
     let f = fits (a .view .now) (a .device .now) (a .queue .now) (a .result .now) (s .before .records-fit .ensures) (s .if1 .taken) in
     (f .2, f .4)
@@ -30,19 +25,19 @@ step-requires c κs = tt
 
 put-device-requires : tie.Need-put-device-requires
 put-device-requires c κs =
-    let s = c .before .before .before .before .before .before .before .before .before .before .before .before in
+    let s = c .before .before .before .before .before .before .before .before .before .before .before in
     let a = s .before .before .before .before .before .before .before .before .before .before .args in
     fits (a .view .now) (a .device .now) (a .queue .now) (a .result .now) (s .before .records-fit .ensures) (s .if1 .taken) .1
 
 put-queue-requires : tie.Need-put-queue-requires
 put-queue-requires c κs =
-    let s = c .before .before .before .before .before .before .before .before .before .before .before .before .before .before .before .before in
+    let s = c .before .before .before .before .before .before .before .before .before .before .before .before .before .before .before in
     let a = s .before .before .before .before .before .before .before .before .before .before .args in
     fits (a .view .now) (a .device .now) (a .queue .now) (a .result .now) (s .before .records-fit .ensures) (s .if1 .taken) .2
 
 put-outcome-requires : tie.Need-put-outcome-requires
 put-outcome-requires c κs =
-    let s = c .before .before .before .before .before .before .before .before .before .before .before .before .before .before .before .before .before .before .before .before in
+    let s = c .before .before .before .before .before .before .before .before .before .before .before .before .before .before .before .before .before .before .before in
     let a = s .before .before .before .before .before .before .before .before .before .before .args in
     fits (a .view .now) (a .device .now) (a .queue .now) (a .result .now) (s .before .records-fit .ensures) (s .if1 .taken) .3
 
@@ -64,9 +59,9 @@ same-length-4 c = c .before .before .before .put-outcome .kept .0
 returns : tie.Need-returns
 returns c =
     let s = c .before .before .before .before .before .before .before .before .before .before .before .before .before .before .before .before .before in
-    let a = s .before .before .before .before .before .before .before .before .before .before .before .before .before .before .before .before .before .args in
+    let a = s .before .before .before .before .before .before .before .before .before .before .before .before .before .before .before .before .args in
     step-taken (a .view .now) (a .device .now) (a .queue .now) (a .memory .now) (a .result .now) (s .step .result)
-    (s .before .before .before .before .before .before .before .before .records-fit .ensures) (s .before .before .before .before .before .before .before .if1 .taken) (s .before .before .before .before .before .before .view-of .ensures) (s .before .before .before .before .device-of .ensures) (s .before .before .queue-of .ensures) (s .step .ensures .0) (s .step .ensures .1)
+    (s .before .before .before .before .before .before .before .records-fit .ensures) (s .before .before .before .before .before .before .if1 .taken) refl (s .before .before .before .before .device-of .ensures) (s .before .before .queue-of .ensures) (s .step .ensures .0) (s .step .ensures .1)
     (c .before .before .before .before .before .before .before .before .before .before .before .put-device .ensures) (c .before .before .before .before .before .before .before .put-queue .ensures) (c .before .before .before .put-outcome .ensures) (c .number-of .ensures)
 
 same-length-5 : tie.Need-same-length-5
@@ -88,7 +83,6 @@ wt-step-spec =
     tie.close
     (tie.spec
     records-fit-requires
-    view-of-requires
     device-of-requires
     queue-of-requires
     step-requires

@@ -5,7 +5,7 @@ use native.Mathlib.Omega.{arith}
 use lib.ListN.{length, drop, length-set, length-map}
 use lib.Seq.{sets, length-sets}
 use Rattle.region_map.specs.Flatten.{noRange}
-use Rattle.wicktumble.specs.Words.{rangesWords, viewWords}
+use Rattle.virtqueue.specs.Words.{rangesWords, viewWords}
 use Rattle.wicktumble.proofs.WordLaws.{write-start, write-turn, write-end, ranges-written}
 use borrow.Author.Needs.{needs}
 use Rattle.wicktumble.proofs.words.put_view.Statement.{statement}
