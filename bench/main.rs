@@ -22,6 +22,7 @@ extern "C" {
     fn wt_read_sheet(sheet: *const u8, sheet_len: usize, memory_length: u64, map: *mut u64, map_words: usize, result: *mut u64, result_words: usize) -> u64;
     fn wt_flatten(map: *const u64, map_words: usize, memory_length: u64, view: *mut u64, view_words: usize, result: *mut u64, result_words: usize) -> u64;
     fn wt_route(view: *const u64, view_words: usize, memory_length: u64, device: *const u64, device_words: usize, address: u64, width: u64, result: *mut u64, result_words: usize) -> u64;
+    fn wt_route_all(view: *const u64, view_words: usize, memory_length: u64, device: *const u64, device_words: usize, accesses: *const u64, access_words: usize, answers: *mut u64, answer_words: usize) -> u64;
     fn wt_step(view: *const u64, view_words: usize, device: *mut u64, device_words: usize, queue: *mut u64, queue_words: usize, memory: *mut u8, memory_len: usize, result: *mut u64, result_words: usize) -> u64;
     fn wt_run(view: *const u64, view_words: usize, device: *mut u64, device_words: usize, queue: *mut u64, queue_words: usize, memory: *mut u8, memory_len: usize, k: u64, result: *mut u64, result_words: usize) -> u64;
 }
@@ -132,14 +133,14 @@ fn accesses(runs: &[Run]) -> Vec<u64> {
 
 // ----------------------------------------------------------------------------------------------- routing
 
-/// The library's time at each number of ranges.
-fn routing() -> Vec<(u64, f64)> {
+/// The library's times at each number of ranges: of one call, and of an access in a call of 256.
+fn routing() -> Vec<(u64, f64, f64)> {
     let mut library = vec![];
     println!("\n## Routing of one access, by the number of ranges\n");
     println!(
-        "Every access succeeds; ranges and widths at random. `wt_route` judges view and device on each call.\n"
+        "Every access succeeds; ranges and widths at random. `wt_route` judges view and device on each call; `wt_route_all` once for 256 accesses, of which one's share is given.\n"
     );
-    println!("| ranges | wt_route | same checks | ratio | trusted route | ratio to it | binary search alone | ratio to it |");
+    println!("| ranges | wt_route | same checks | ratio | wt_route_all, of 256 | trusted route | ratio to it | binary search alone |");
     println!("|---|---|---|---|---|---|---|---|");
     for count in [4, 16, 64, 256] {
         let (runs, length) = pages(count);
@@ -147,6 +148,7 @@ fn routing() -> Vec<(u64, f64)> {
         let device = full_device();
         let accesses = accesses(&runs);
         let trusted: Vec<plain::Range> = runs.iter().map(Run::words).collect();
+        let mut answers = vec![0u64; 2 * accesses.len()];
         let (mut result, mut i) = ([0u64; 3], 0);
         let mut next = || {
             i = (i + 1) % 256;
@@ -185,18 +187,26 @@ fn routing() -> Vec<(u64, f64)> {
                 let (address, _) = next();
                 black_box(plain::find(black_box(&trusted), address));
             },
+            &mut || {
+                let (v, d, a) = (view.as_ptr(), device.as_ptr(), accesses.as_ptr());
+                let to = answers.as_mut_ptr();
+                black_box(unsafe {
+                    wt_route_all(v, view.len(), length, d, 37, a, accesses.len(), to, 1024)
+                });
+            },
         ]);
+        assert!(answers.chunks(4).all(|a| a[0] == 0));
         println!(
             "| {count} | {} | {} | {} | {} | {} | {} | {} |",
             time(t[0]),
             time(t[1]),
             ratio(t[0], t[1]),
+            time(t[4] / 256.0),
             time(t[2]),
-            ratio(t[0], t[2]),
+            ratio(t[4] / 256.0, t[2]),
             time(t[3]),
-            ratio(t[0], t[3]),
         );
-        library.push((count, t[0]));
+        library.push((count, t[0], t[4] / 256.0));
     }
     library
 }
@@ -724,7 +734,7 @@ fn flat_views() {
 // ---------------------------------------------------------------------------- vm-memory, where installed
 
 /// Only where Debian's librust-vm-memory-dev is installed; else one line says so.
-fn vm_memory(library: &[(u64, f64)]) {
+fn vm_memory(library: &[(u64, f64, f64)]) {
     println!("\n## vm-memory\n");
     let registry = std::path::Path::new("/usr/share/cargo/registry");
     let found = std::fs::read_dir(registry).ok().and_then(|entries| {
@@ -751,15 +761,17 @@ fn vm_memory(library: &[(u64, f64)]) {
         }
     };
     println!("{found}, which trusts its map: `get_slice` (lookup) and `read_obj` (lookup and read) of one access in RAM.\n");
-    println!("| ranges | get_slice | read_obj | wt_route | ratio to read_obj |\n|---|---|---|---|---|");
-    for (line, (count, ours)) in text.lines().zip(library) {
+    println!("| ranges | get_slice | read_obj | wt_route_all, of 256 | ratio to read_obj | wt_route | ratio to read_obj |\n|---|---|---|---|---|---|---|");
+    for (line, (count, one, many)) in text.lines().zip(library) {
         let times: Vec<f64> = line.split(' ').map(|t| t.parse().unwrap()).collect();
         println!(
-            "| {count} | {} | {} | {} | {} |",
+            "| {count} | {} | {} | {} | {} | {} | {} |",
             time(times[0]),
             time(times[1]),
-            time(*ours),
-            ratio(*ours, times[1])
+            time(*many),
+            ratio(*many, times[1]),
+            time(*one),
+            ratio(*one, times[1])
         );
     }
 }

@@ -65,6 +65,14 @@ uint64_t wt_route(const uint64_t *view, size_t view_words, uint64_t memory_lengt
                   const uint64_t *device, size_t device_words, uint64_t address, uint64_t width,
                   uint64_t *result, size_t result_words);
 
+/* Routes many accesses, for which view and device are judged once. accesses: two words each, the address and
+ * the width. answers: four words each, the number that wt_route returns and its three words of result. Returns
+ * 0, or 27 where a record is refused or the answers are not four words for each two; then no answer is
+ * written. */
+uint64_t wt_route_all(const uint64_t *view, size_t view_words, uint64_t memory_length,
+                      const uint64_t *device, size_t device_words, const uint64_t *accesses,
+                      size_t access_words, uint64_t *answers, size_t answer_words);
+
 /* Makes a queue of a size and three areas, with its indices at 0. Refuses with 16, 27. */
 uint64_t wt_make_queue(uint64_t size, uint64_t descriptors, uint64_t available, uint64_t used,
                        uint64_t *queue, size_t queue_words);

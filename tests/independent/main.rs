@@ -33,6 +33,7 @@ mod ffi {
             pub fn wt_unpin(device: *mut u64, device_words: usize, block: u64) -> u64;
             pub fn wt_system_reset(device: *mut u64, device_words: usize) -> u64;
             pub fn wt_configuration(device: *const u64, device_words: usize, bytes: *mut u8, bytes_len: usize) -> u64;
+            pub fn wt_route_all(view: *const u64, view_words: usize, memory_length: u64, device: *const u64, device_words: usize, accesses: *const u64, access_words: usize, answers: *mut u64, answer_words: usize) -> u64;
             pub fn wt_route(view: *const u64, view_words: usize, memory_length: u64, device: *const u64, device_words: usize, address: u64, width: u64, result: *mut u64, result_words: usize) -> u64;
             pub fn wt_make_queue(size: u64, descriptors: u64, available: u64, used: u64, queue: *mut u64, queue_words: usize) -> u64;
             pub fn wt_reset_queue(queue: *mut u64, queue_words: usize) -> u64;
@@ -86,6 +87,12 @@ mod ffi {
     pub fn route(v: &[u64], length: u64, d: &[u64], address: u64, width: u64, r: &mut [u64]) -> u64 {
         unsafe {
             raw::wt_route(v.as_ptr(), v.len(), length, d.as_ptr(), d.len(), address, width, r.as_mut_ptr(), r.len())
+        }
+    }
+    #[rustfmt::skip]
+    pub fn route_all(v: &[u64], length: u64, d: &[u64], accesses: &[u64], answers: &mut [u64]) -> u64 {
+        unsafe {
+            raw::wt_route_all(v.as_ptr(), v.len(), length, d.as_ptr(), d.len(), accesses.as_ptr(), accesses.len(), answers.as_mut_ptr(), answers.len())
         }
     }
     #[rustfmt::skip]
@@ -1490,6 +1497,52 @@ fn route_case(r: &mut Rng, tally: &mut Tally) -> Result<(), String> {
     Ok(())
 }
 
+// --------------------------------------------------------------------------- kind: many accesses at once
+
+fn route_all_case(r: &mut Rng, tally: &mut Tally) -> Result<(), String> {
+    let (mut state, runs, block_size) = routing_state(r);
+    let count = 1 + r.below(20) as usize;
+    let mut accesses = vec![];
+    for _ in 0..count {
+        let (address, width) = random_access(r, &runs, block_size);
+        accesses.extend([address, width]);
+    }
+    let access_words = length(r, accesses.len());
+    let answer_words = length(r, 2 * accesses.len());
+    state.words.push(("accesses", guarded(r, &accesses), access_words));
+    state.words.push(("answers", garbage(r, 2 * accesses.len()), answer_words));
+    both(
+        tally,
+        "wt_route_all",
+        &mut state,
+        |s| {
+            let n = s.n(0);
+            let (records, answers) = s.words.split_at_mut(3);
+            let length = answers[0].2;
+            ffi::route_all(
+                &records[0].1[..records[0].2],
+                n,
+                &records[1].1[..records[1].2],
+                &records[2].1[..records[2].2],
+                &mut answers[0].1[..length],
+            )
+        },
+        |s| {
+            let n = s.n(0);
+            let (records, answers) = s.words.split_at_mut(3);
+            let length = answers[0].2;
+            calls::route_all(
+                &records[0].1[..records[0].2],
+                n,
+                &records[1].1[..records[1].2],
+                &records[2].1[..records[2].2],
+                &mut answers[0].1[..length],
+            )
+        },
+    )
+    .map(|_| ())
+}
+
 // --------------------------------------------------------------------------- kind: queue make and reset
 
 fn queue_case(r: &mut Rng, tally: &mut Tally) -> Result<(), String> {
@@ -2423,7 +2476,7 @@ fn one(kind: usize, seed: u64, tally: &mut Tally, noise: &[u8]) -> Result<(), St
         2 => walk_case(r, tally),
         3 => flatten_case(r, tally),
         4 => host_case(r, tally),
-        5 => route_case(r, tally),
+        5 => route_case(r, tally).and_then(|()| route_all_case(r, tally)),
         6 => queue_case(r, tally),
         7 => step_case(r, tally, noise),
         8 => run_case(r, tally, noise),

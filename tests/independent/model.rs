@@ -1223,6 +1223,30 @@ pub mod calls {
         number
     }
 
+    /// Each access as `route` answers it: its number and its result, four words.
+    pub fn route_all(
+        view: &[u64],
+        memory_length: u64,
+        device: &[u64],
+        accesses: &[u64],
+        answers: &mut [u64],
+    ) -> u64 {
+        if view.len() != VIEW
+            || (device.len() != DEVICE && !device.is_empty())
+            || accesses.len() % 2 != 0
+            || answers.len() != 2 * accesses.len()
+        {
+            return 27;
+        }
+        let Some((runs, device)) = routing(view, memory_length, device) else { return 27 };
+        for (access, answer) in accesses.chunks(2).zip(answers.chunks_mut(4)) {
+            let (number, words) = routed(super::route(&runs, device.as_ref(), access[0], access[1]));
+            answer[0] = number;
+            answer[1..].copy_from_slice(&words);
+        }
+        0
+    }
+
     pub fn make_queue(
         size: u64,
         descriptors: u64,

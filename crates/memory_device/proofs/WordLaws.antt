@@ -12,8 +12,9 @@ use lib.Bits.{bitOr, bitXor, or-shr, or-mod, or-lt, xor-shr, xor-mod, xor-lt}
 use lib.ListN.{length, getD, set, length-set}
 use lib.Seq.{getD-set-same, getD-set-other}
 use borrow.Author.Tests.{lt-ltb, le-ltb, le-leb, lt-leb, eq-eqb, ne-eqb}
-use Rattle.memory_device.specs.Table.{bitOf, bitAt, wordOf, tableOf, within, heldIn}
-use Rattle.memory_device.proofs.TableLaws.{side, eq-or-not, word-bits, word-lt, word-ext, word-low, word-bit, block, table-ext, held-le, held-all, held-none}
+use Rattle.region_map.proofs.Bools.{never}
+use Rattle.memory_device.specs.Table.{bitOf, bitAt, wordOf, tableOf, within, heldIn, allBelow}
+use Rattle.memory_device.proofs.TableLaws.{side, eq-or-not, word-bits, word-lt, word-ext, word-low, word-bit, block, table-ext, all-true, all-of, held-le, held-all, held-none}
 
 word-is : (w : ℕ) (f : ℕ → Bool) → w < 2 ^ 64 → ((k : ℕ) → k < 64 → bitOf w k ≡ f k) → w ≡ wordOf f 64
 word-is w f h e = word-bits w h ∙ word-ext (bitOf w) f 64 e
@@ -147,6 +148,14 @@ held-of t from (suc n) on h = go on (h n (omega arith)) (held-of t from n on (λ
 held-is : (t : List ℕ) (from n : ℕ) (on : Bool) → heldIn t from n ≡ cond on n 0 → (b : ℕ) → b < n → bitAt t (from + b) ≡ on
 held-is t from n true e b h = held-all t from n e b h
 held-is t from n false e b h = held-none t from n e b h
+
+-- a run is set whole, or a block of it is not
+pub run-held : (t : List ℕ) (from n : ℕ) → eqb (heldIn t from n) n ≡ allBelow (λ i. bitAt t (from + i)) n
+run-held t from n = go (allBelow (λ i. bitAt t (from + i)) n) refl
+  where
+    go : (x : Bool) → allBelow (λ i. bitAt t (from + i)) n ≡ x → eqb (heldIn t from n) n ≡ x
+    go true p = eq-eqb (heldIn t from n) n (held-of t from n true (all-true (λ i. bitAt t (from + i)) n p))
+    go false p = ne-eqb (heldIn t from n) n (λ e. never (sym (all-of (λ i. bitAt t (from + i)) n (held-all t from n e)) ∙ p))
 
 pub any-held : (t : List ℕ) (from n : ℕ) → ltb 0 (heldIn t from n) ≡ not (eqb (heldIn t from n) 0)
 any-held t from n =

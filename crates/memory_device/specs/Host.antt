@@ -1,12 +1,12 @@
 -- The host's calls: requested size, pins, system reset, configuration. Assumes nothing: these are definitions.
 use mathlib.Core.Bool.{Bool, true, false, cond, _&&_, _||_, not}
 use mathlib.Core.List.{List}
-use Prim.Native.Nat.{ℕ, _/_, _%_, max}
+use Prim.Native.Nat.{ℕ, _+_, _/_, _%_, max}
 use lib.Dec.{eqb, ltb}
 use lib.ListN.{replicate}
 use Rattle.region_map.specs.Reply.{Reply, accepted, plain}
 use Rattle.memory_device.specs.Bytes.{configurationBytes}
-use Rattle.memory_device.specs.Table.{bitAt, within, tableOf}
+use Rattle.memory_device.specs.Table.{bitAt, within, tableOf, allBelow}
 use Rattle.memory_device.specs.Device.{Outcome, withTables, fresh, pluggedSize, deviceOk, hostReply}
 use Rattle.memory_device.specs.declared.device.MemoryDevice.{MemoryDevice}
 use Rattle.memory_device.specs.declared.device.Changed.{Changed}
@@ -91,6 +91,10 @@ blockOfByte d o = o / d .«block_size»
 -- is the byte at an offset of the managed region in a plugged block? A division by 0 gives 0
 abbrev pub pluggedAt : MemoryDevice → ℕ → Bool
 pluggedAt d o = bitAt (d .plugged) (blockOfByte d o)
+
+-- are the blocks of a run plugged?
+abbrev pub runPlugged : MemoryDevice → ℕ → ℕ → Bool
+runPlugged d from n = allBelow (λ i. bitAt (d .plugged) (from + i)) n
 
 -- the block of a byte of the region, or that the byte lies outside it, or 27
 pub data ByteIn : Type 0 where

@@ -2,7 +2,7 @@
 ghost use mathlib.Core.Path.{_≡_};
 ghost use Rattle.memory_device.specs.Table.{bitAt};
 ghost use Rattle.memory_device.specs.Device.{deviceOk};
-ghost use Rattle.memory_device.specs.Host.{outcomeOf, resized, pinned, unpinned, wasReset, configured, readOf, byteBlock, byteOf, pluggedAt};
+ghost use Rattle.memory_device.specs.Host.{outcomeOf, resized, pinned, unpinned, wasReset, configured, readOf, byteBlock, byteOf, pluggedAt, runPlugged};
 use crate::bytes::configuration_bytes;
 use crate::device::BlockNumber;
 use crate::device::Changed;
@@ -14,6 +14,7 @@ use crate::state::is_in;
 use crate::state::plugged_size;
 use crate::state::with_requested;
 use crate::state::with_tables;
+use crate::table::all_set;
 use crate::table::with_run;
 use region_map::map::RegionOffset;
 
@@ -44,6 +45,22 @@ impl MemoryDevice {
     {
         let plugged = self.plugged;
         is_in(plugged, block.0 as usize)
+    }
+
+    // Are the blocks of a run plugged? None is from 1,024 on.
+    pub fn is_run_plugged(self, from: BlockNumber, count: u16) -> bool
+        ensures { λ r. ⌜ r ≡ runPlugged self (from .0) count ⌝ }
+    {
+        let plugged = self.plugged;
+        let start = from.0 as usize;
+        let n = count as usize;
+        if n == 0 {
+            return true;
+        }
+        if 1024 < start + n {
+            return false;
+        }
+        all_set(plugged, start, n)
     }
 
     // Is the byte at an offset of the managed region in a plugged block? Of a record without a block

@@ -8,11 +8,13 @@ pub mod MemoryLaws
 pub mod QueueLaws
 pub mod ReachLaws
 pub mod ReachedLaws
+pub mod RouteAllLaws
 pub mod RouteLaws
 pub mod RuleLaws
 pub mod RunLaws
 pub mod RunSteps
 pub mod StepLaws
+pub mod StoreLaws
 mod StretchLaws
 pub mod TakeLaws
 pub mod TreeLaws

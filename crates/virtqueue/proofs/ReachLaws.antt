@@ -12,13 +12,14 @@ use Rattle.region_map.specs.ViewRules.{rangeOf}
 use Rattle.region_map.specs.declared.view.FlatView.{FlatView}
 use Rattle.region_map.proofs.Bools.{and-off}
 use Rattle.memory_device.specs.Table.{bitAt}
-use Rattle.memory_device.specs.Host.{pluggedAt}
+use Rattle.memory_device.specs.Host.{pluggedAt, runPlugged}
 use Rattle.memory_device.specs.declared.device.MemoryDevice.{MemoryDevice}
 use Rattle.virtqueue.specs.Guest.{reachKind, reachLeaf, byView, allReach}
 use Rattle.virtqueue.specs.Contracts.{Ordered, Spot, Extends}
 use Rattle.virtqueue.specs.declared.reach.Extent.{Extent}
 use Rattle.virtqueue.specs.declared.reach.Extent.the-variants.{Go, Stop}
-use Rattle.memory_device.proofs.TableLaws.{side}
+use Rattle.memory_device.proofs.RuleLaws.{blocks-mono}
+use Rattle.memory_device.proofs.TableLaws.{side, all-true as all-below}
 use Rattle.virtqueue.proofs.FindLaws.{ends-before, none-holds, at-range}
 
 -- a block goes on to its last byte
@@ -26,14 +27,27 @@ same-block : (b o e : ℕ) → 0 < b → e ≤ b - 1 - o % b → (o + e) / b ≡
 same-block b o e p h =
     div-eq-of-lt-le b (omega (arith, div-add-mod' o b)) (omega (arith, div-add-mod' o b, mod-lt o p, add-mul (o / b) 1 b, one-mul b))
 
+-- the blocks of the bytes from one on run from its block, and a run of them that is plugged holds each
+module _ (d : MemoryDevice) (o more : ℕ) (p : 0 < d .«block_size») where
+  pub run-order : o / d .«block_size» ≤ (o + more) / d .«block_size»
+  run-order = blocks-mono (d .«block_size») o (o + more) p (omega arith)
+
+  pub run-true : runPlugged d (o / d .«block_size») ((o + more) / d .«block_size» - o / d .«block_size» + 1) ≡ true → (e : ℕ) → e ≤ more → pluggedAt d (o + e) ≡ true
+  run-true r e h =
+      let low = blocks-mono (d .«block_size») o (o + e) p (omega arith) in
+      let high = blocks-mono (d .«block_size») (o + e) (o + more) p (omega arith) in
+      let same : (o + e) / d .«block_size» ≡ o / d .«block_size» + ((o + e) / d .«block_size» - o / d .«block_size») = omega arith in
+      ap (bitAt (d .plugged)) same
+      ∙ all-below (λ i. bitAt (d .plugged) (o / d .«block_size» + i)) ((o + more) / d .«block_size» - o / d .«block_size» + 1) r ((o + e) / d .«block_size» - o / d .«block_size») (omega arith)
+
 -- how far the bytes of a kind are reachable
 pub block-true : (d : MemoryDevice) (kind o e : ℕ) → 0 < d .«block_size» → kind ≡ managed → pluggedAt d o ≡ true → e ≤ d .«block_size» - 1 - o % d .«block_size»
     → reachKind (pluggedAt d) kind (o + e) ≡ true
 block-true d kind o e p q r h =
     ap (λ (k : ℕ). reachKind (pluggedAt d) k (o + e)) q ∙ ap (bitAt (d .plugged)) (same-block (d .«block_size») o e p h) ∙ r
 
-pub block-false : (plugged : ℕ → Bool) (kind o : ℕ) → kind ≡ managed → plugged o ≡ false → reachKind plugged kind o ≡ false
-block-false plugged kind o q r = ap (λ (k : ℕ). reachKind plugged k o) q ∙ r
+pub managed-is : (plugged : ℕ → Bool) (kind o : ℕ) (x : Bool) → kind ≡ managed → plugged o ≡ x → reachKind plugged kind o ≡ x
+managed-is plugged kind o x q r = ap (λ (k : ℕ). reachKind plugged k o) q ∙ r
 
 pub other-false : (plugged : ℕ → Bool) (kind o : ℕ) → (kind ≡ ram → ⊥) → (kind ≡ managed → ⊥) → reachKind plugged kind o ≡ false
 other-false plugged kind o p q = simp (ne-eqb kind ram p, ne-eqb kind managed q)

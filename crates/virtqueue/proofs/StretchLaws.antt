@@ -135,6 +135,9 @@ module _ (v : FlatView) (k n : ℕ) (count : n ≡ v .count) (h : k < n) where
     pub read-offset : Spot v a k → Ordered v → r .offset .0 + (a - r .first .0) < 2 ^ 48
     read-offset s o = rw range (spot-low v a k o s read-below)
 
+    pub read-end : Spot v a k → Ordered v → r .offset .0 + (a - r .first .0) + (r .last .0 - a) < 2 ^ 48
+    read-end s o = rw range (omega (arith, s .low read-below, s .high read-below, o .offset k read-below))
+
     pub read-room : Spot v a k → Ordered v → InMemory v a 1 → r .base + (r .offset .0 + (a - r .first .0)) < 2 ^ 64
     read-room s o m = rw range (spot-room v a k o s m read-below)
 

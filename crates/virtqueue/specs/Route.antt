@@ -1,7 +1,9 @@
 -- Routing of one guest access: 23 to 26. Assumes nothing: these are definitions.
 use mathlib.Core.Bool.{Bool, true, false, cond, _&&_, _||_, not}
-use Prim.Native.Nat.{ℕ, _+_}
+use mathlib.Core.List.{List, [], _∷_, _++_}
+use Prim.Native.Nat.{ℕ, zero, suc, _+_, _*_, _/_, _%_}
 use lib.Dec.{eqb}
+use lib.ListN.{length, getD}
 use Rattle.region_map.specs.Map.{mmio, managed}
 use Rattle.region_map.specs.Flatten.{entries}
 use Rattle.region_map.specs.Reply.{Reply, accepted, plain}
@@ -64,3 +66,36 @@ abbrev pub routeReply : RouteAnswer → Reply
 routeReply (Refused n) = plain n
 routeReply (Memory p) = accepted
 routeReply (Port p o) = accepted
+
+-- Many accesses at once, each of two words: its address and its width. An answer is four words: document 01's number, or 0 and then 1 and the memory place, or 2, the port and the offset.
+abbrev pub answerWords : RouteAnswer → List ℕ
+answerWords (Refused n) = n ∷ 0 ∷ 0 ∷ 0 ∷ []
+answerWords (Memory p) = 0 ∷ 1 ∷ p ∷ 0 ∷ []
+answerWords (Port p o) = 0 ∷ 2 ∷ p ∷ o .0 ∷ []
+
+-- n accesses from number i on, each answered by f
+unfoldable pub answersTo : (ℕ → ℕ → RouteAnswer) → List ℕ → ℕ → ℕ → List ℕ
+answersTo f accesses i zero = []
+answersTo f accesses i (suc n) =
+    answerWords (f (getD accesses (2 * i) 0) (getD accesses (2 * i + 1) 0)) ++ answersTo f accesses (suc i) n
+
+-- four words for each two
+abbrev pub answersFit : List ℕ → List ℕ → Bool
+answersFit accesses answers = eqb (length accesses % 2) 0 && eqb (length answers) (2 * length accesses)
+
+pub record RoutedAll : Type 0 where
+  pub number : ℕ
+  pub answers : List ℕ
+
+-- each access as one access is routed; words that do not fit are 27, as a record that breaks its rules
+unfoldable pub allRouted : Bool → (ℕ → ℕ → RouteAnswer) → List ℕ → List ℕ → RoutedAll
+allRouted ok f accesses answers =
+    cond (ok && answersFit accesses answers)
+    (record { number = 0; answers = answersTo f accesses 0 (length accesses / 2) })
+    (record { number = 27; answers = answers })
+
+abbrev pub allWith : FlatView → ℕ → MemoryDevice → List ℕ → List ℕ → RoutedAll
+allWith v memory d = allRouted (viewOk v memory (d .«region_size») && deviceOk d) (routedWith v memory d)
+
+abbrev pub allWithout : FlatView → ℕ → List ℕ → List ℕ → RoutedAll
+allWithout v memory = allRouted (viewOk v memory noRegionBound) (routedWithout v memory)

@@ -1,8 +1,8 @@
-// Reach: an element's bytes, range by range and block by block.
+// Reach: an element's bytes, range by range, and in a managed range by runs of blocks.
 ghost use mathlib.Core.Path.{_≡_};
 ghost use mathlib.Core.Bool.{true};
 ghost use Rattle.memory_device.specs.declared.device.MemoryDevice.{MemoryDevice};
-ghost use Prim.Native.Nat.{_<_};
+ghost use Prim.Native.Nat.{ℕ, _+_, _≤_, _<_, min};
 ghost use Rattle.memory_device.specs.Host.{pluggedAt};
 ghost use Rattle.virtqueue.specs.Words.{viewOf};
 ghost use Rattle.virtqueue.specs.Guest.{byView, allReach};
@@ -10,6 +10,7 @@ ghost use Rattle.virtqueue.specs.Contracts.{Judged, Extends};
 use crate::find::near;
 use crate::words::count_of;
 use crate::words::range_at;
+use memory_device::device::BlockNumber;
 use memory_device::device::MemoryDevice;
 use region_map::map::GuestAddress;
 use region_map::map::MANAGED;
@@ -24,23 +25,45 @@ pub enum Extent {
     Stop,
 }
 
-// From an offset of a region of a kind on, for at most `span` bytes after it: RAM to the end, a plugged
-// block to its last byte.
-fn how_far(device: MemoryDevice, kind: u64, offset: u64, span: u64) -> Extent
+fn nearer(a: u64, b: u64) -> u64
+    ensures { λ r. ⌜ r ≡ min a b ⌝ }
+{
+    if b < a { b } else { a }
+}
+
+// Are the blocks of the bytes from an offset on plugged, up to `more` bytes after it?
+fn run_holds(device: MemoryDevice, offset: u64, more: u64) -> bool
+    requires { ⌜ (0 < device .«block_size») × (offset + more < 281474976710656) ⌝ }
+    ensures { λ r. ⌜ (r ≡ true → (e : ℕ) → e ≤ more → pluggedAt device (offset + e) ≡ true) ⌝ }
+{
+    let block = device.block_size;
+    let first = offset / block;
+    let last = (offset + more) / block;
+    if last < 1024 {
+        return device.is_run_plugged(BlockNumber(first as u16), (last - first + 1) as u16);
+    }
+    false
+}
+
+// From an offset of a region of a kind on, for at most `span` bytes after it: RAM to the end; a plugged
+// block to its last byte, or as far as bytes are wanted where all their blocks are plugged.
+fn how_far(device: MemoryDevice, kind: u64, offset: u64, span: u64, wanted: u64) -> Extent
     requires { ⌜ 0 < device .«block_size» ⌝ }
+    requires { ⌜ offset + span < 281474976710656 ⌝ }
     ensures { λ r. ⌜ Extends (pluggedAt device) kind offset span r ⌝ }
 {
     if kind == RAM {
         return Extent::Go(span);
     }
     if kind == MANAGED {
+        let far = nearer(span, wanted);
+        if run_holds(device, offset, far) {
+            return Extent::Go(far);
+        }
         if device.holds(RegionOffset(offset)) {
             let block = device.block_size;
             let left = block - 1 - offset % block;
-            if left < span {
-                return Extent::Go(left);
-            }
-            return Extent::Go(span);
+            return Extent::Go(nearer(left, span));
         }
         return Extent::Stop;
     }
@@ -62,7 +85,7 @@ fn in_ram(view: &[u64], hint: usize, addr: GuestAddress, length: u64) -> bool
     false
 }
 
-// Is each of the bytes from an address on reachable? None wraps. Range by range, block by block.
+// Is each of the bytes from an address on reachable? None wraps. Range by range.
 fn reaches_far(view: &[u64], device: MemoryDevice, addr: GuestAddress, length: u64) -> bool
     requires { ⌜ Judged (now view) ⌝ }
     requires { ⌜ 0 < device .«block_size» ⌝ }
@@ -85,7 +108,13 @@ fn reaches_far(view: &[u64], device: MemoryDevice, addr: GuestAddress, length: u
         }
         let range = range_at(view, at);
         let offset = range.offset.0 + (a - range.first.0);
-        match how_far(device, range.kind, offset, range.last.0 - a) {
+        match how_far(
+            device,
+            range.kind,
+            offset,
+            range.last.0 - a,
+            length - done - 1,
+        ) {
             Extent::Stop => {
                 return false;
             }

@@ -1,14 +1,17 @@
 // Routing of one guest access.
 ghost use mathlib.Core.Path.{_≡_};
 ghost use mathlib.Core.Bool.{true};
-ghost use Prim.Native.Nat.{_+_, _≤_, _<_};
+ghost use mathlib.Core.List.{[], _∷_};
+ghost use Prim.Native.Nat.{_+_, _*_, _/_, _≤_, _<_};
+ghost use lib.ListN.{length};
+ghost use lib.Seq.{sets};
 ghost use Rattle.region_map.specs.Flatten.{entries};
 ghost use Rattle.region_map.specs.Reply.{numberOf};
 ghost use Rattle.memory_device.specs.Table.{allBelow};
 ghost use Rattle.memory_device.specs.Host.{pluggedAt};
 ghost use Rattle.virtqueue.specs.Words.{viewOf};
 ghost use Rattle.virtqueue.specs.Guest.{leafAt};
-ghost use Rattle.virtqueue.specs.Route.{widthOk, follows, routed, routedWith, routedWithout, routeReply};
+ghost use Rattle.virtqueue.specs.Route.{widthOk, follows, routed, routedWith, routedWithout, routeReply, answerWords, answersTo, answersFit, allWith, allWithout};
 ghost use Rattle.virtqueue.specs.Contracts.{Judged, Spot, noDevice};
 use crate::find::near;
 use crate::rules::view_ok;
@@ -158,4 +161,87 @@ pub fn number_of(answer: RouteAnswer) -> u64
         RouteAnswer::Memory(_) => 0,
         RouteAnswer::Port(_, _) => 0,
     }
+}
+
+fn put_four(words: &mut [u64], at: usize, a: u64, b: u64, c: u64, d: u64)
+    requires { ⌜ at + 4 ≤ length (now words) ⌝ }
+    ensures { λ _. ⌜ now (words .exit) ≡ sets (now (words .entry)) at (a ∷ b ∷ c ∷ d ∷ []) ⌝ }
+{
+    words[at] = a;
+    words[at + 1] = b;
+    words[at + 2] = c;
+    words[at + 3] = d;
+}
+
+// An answer's four words at the place of access i.
+fn put_answer(answers: &mut [u64], i: usize, answer: RouteAnswer)
+    requires { ⌜ 4 * i + 4 ≤ length (now answers) ⌝ }
+    ensures { λ _. ⌜ now (answers .exit) ≡ sets (now (answers .entry)) (4 * i) (answerWords answer) ⌝ }
+{
+    let at = 4 * i;
+    match answer {
+        RouteAnswer::Refused(n) => put_four(answers, at, n as u64, 0, 0, 0),
+        RouteAnswer::Memory(place) => put_four(answers, at, 0, 1, place, 0),
+        RouteAnswer::Port(port, offset) => put_four(answers, at, 0, 2, port, offset.0),
+    }
+}
+
+// Each access in turn, over a view that was judged.
+fn routes_judged(view: &[u64], device: MemoryDevice, accesses: &[u64], answers: &mut [u64])
+    requires { ⌜ Judged (now view) ⌝ }
+    requires { ⌜ 8 ≤ device .«block_size» ⌝ }
+    requires { ⌜ answersFit (now accesses) (now answers) ≡ true ⌝ }
+    ensures { λ _. ⌜ now (answers .exit) ≡ answersTo (routed (leafAt (entries (viewOf (now (view .entry))))) (pluggedAt device)) (now (accesses .entry)) 0 (length (now (accesses .entry)) / 2) ⌝ }
+{
+    let count = accesses.len() / 2;
+    let mut i: usize = 0;
+    while i < count {
+        let a = GuestAddress(accesses[2 * i]);
+        let w = accesses[2 * i + 1];
+        let answer = route_judged(view, device, a, w);
+        put_answer(answers, i, answer);
+        i += 1;
+    }
+}
+
+// Do the answers have four words for each two of the accesses?
+fn answers_fit(accesses: &[u64], answers: &[u64]) -> bool
+    ensures { λ r. ⌜ r ≡ answersFit (now (accesses .entry)) (now (answers .entry)) ⌝ }
+{
+    (accesses.len() % 2 == 0) & (answers.len() % 2 == 0) & (answers.len() / 2 == accesses.len())
+}
+
+// Many accesses with a device, for which the records are judged once.
+pub fn route_all(
+    view: &[u64],
+    memory_length: u64,
+    device: MemoryDevice,
+    accesses: &[u64],
+    answers: &mut [u64],
+) -> u64
+    ensures { λ r. ⌜ (r ≡ allWith (viewOf (now (view .entry))) «memory_length» device (now (accesses .entry)) (now (answers .entry)) .number) × (now (answers .exit) ≡ allWith (viewOf (now (view .entry))) «memory_length» device (now (accesses .entry)) (now (answers .entry)) .answers) ⌝ }
+{
+    let ok = view_ok(view, memory_length, device.region_size) & device.keeps_rules();
+    if ok & answers_fit(accesses, answers) {
+        routes_judged(view, device, accesses, answers);
+        return 0;
+    }
+    27
+}
+
+// Many accesses without one.
+pub fn route_all_without_device(
+    view: &[u64],
+    memory_length: u64,
+    accesses: &[u64],
+    answers: &mut [u64],
+) -> u64
+    ensures { λ r. ⌜ (r ≡ allWithout (viewOf (now (view .entry))) «memory_length» (now (accesses .entry)) (now (answers .entry)) .number) × (now (answers .exit) ≡ allWithout (viewOf (now (view .entry))) «memory_length» (now (accesses .entry)) (now (answers .entry)) .answers) ⌝ }
+{
+    let ok = view_ok(view, memory_length, NO_REGION);
+    if ok & answers_fit(accesses, answers) {
+        routes_judged(view, no_device(), accesses, answers);
+        return 0;
+    }
+    27
 }

@@ -29,7 +29,7 @@ use Rattle.sheet.specs.declared.answer.SheetAnswer.the-variants as read
 use Rattle.sheet.specs.declared.reading.SheetReading.{SheetReading}
 use Rattle.memory_device.specs.declared.device.MemoryDevice.{MemoryDevice}
 use Rattle.virtqueue.specs.Queue.{sizeOk, areasOk, made, wasReset, queueReply}
-use Rattle.virtqueue.specs.Route.{routedWith, routedWithout, routeReply}
+use Rattle.virtqueue.specs.Route.{routedWith, routedWithout, routeReply, allWith, allWithout}
 use Rattle.virtqueue.specs.Step.{stepped, stepReply}
 use Rattle.virtqueue.specs.Run.{ran}
 use Rattle.virtqueue.specs.declared.queue.SplitQueue.{SplitQueue}
@@ -44,7 +44,7 @@ use Rattle.virtqueue.specs.Words.{viewOf, viewWords}
 use Rattle.wicktumble.specs.Words.{mapOf, mapWords, deviceOf, deviceWords, queueFits, queueOf, queueWords, three, replyWords, isMap, isView, isDevice, isQueue, isResult}
 use Rattle.wicktumble.specs.Maps.{readCall, checkCall, answerWords, walkCall, flattenCall}
 use Rattle.wicktumble.specs.Queues.{makeCall, resetQueueCall, recordsFit, outcomeNumber, outcomeWords, stepCall, endNumber, isIdle, runCall}
-use Rattle.wicktumble.specs.Routes.{routeWords, routeBy, routeCall}
+use Rattle.wicktumble.specs.Routes.{routeWords, routeBy, routeCall, routeAllCall}
 
 -- ---- Steps and runs
 
@@ -226,6 +226,27 @@ module _ (v : List ℕ) (m : ℕ) (d : List ℕ) (a w : ℕ) where
   pub by-device : {fv : FlatView} {dv : MemoryDevice} {r : RouteAnswer} → (length d ≡ 0 → ⊥) → fv ≡ viewOf v → dv ≡ deviceOf d → r ≡ routedWith fv m dv a w
       → r ≡ routeBy v m d a w
   by-device h ev eᵈ er = rw (ne-eqb (length d) 0 h, er, ev, eᵈ)
+
+-- many accesses
+module _ (v : List ℕ) (m : ℕ) (d q x : List ℕ) where
+  abbrev AllSays : ℕ → List ℕ → Type 0
+  AllSays n x' = (n ≡ routeAllCall v m d q x .number) × (x' ≡ routeAllCall v m d q x .answers)
+
+  pub all-none : {n : ℕ} {x' : List ℕ} → length d ≡ 0 → n ≡ allWithout (viewOf v) m q x .number → x' ≡ allWithout (viewOf v) m q x .answers → AllSays n x'
+  unfolding routeAllCall
+  all-none h eⁿ ex = (rw (eq-eqb (length d) 0 h) eⁿ, rw (eq-eqb (length d) 0 h) ex)
+
+  pub all-device : {dv : MemoryDevice} {n : ℕ} {x' : List ℕ} → (length d ≡ 0 → ⊥) → length d ≡ 37 → dv ≡ deviceOf d
+      → n ≡ allWith (viewOf v) m dv q x .number → x' ≡ allWith (viewOf v) m dv q x .answers → AllSays n x'
+  unfolding routeAllCall
+  all-device h k eᵈ eⁿ ex = (
+    rw (ne-eqb (length d) 0 h, eq-eqb (length d) 37 k) (eⁿ ∙ ap (λ (y : MemoryDevice). allWith (viewOf v) m y q x .number) eᵈ),
+    rw (ne-eqb (length d) 0 h, eq-eqb (length d) 37 k) (ex ∙ ap (λ (y : MemoryDevice). allWith (viewOf v) m y q x .answers) eᵈ),
+  )
+
+  pub all-refused : (length d ≡ 0 → ⊥) → (length d ≡ 37 → ⊥) → AllSays 27 x
+  unfolding routeAllCall
+  all-refused h k = (rw (ne-eqb (length d) 0 h, ne-eqb (length d) 37 k), rw (ne-eqb (length d) 0 h, ne-eqb (length d) 37 k))
 
 module _ (v : List ℕ) (m : ℕ) (d : List ℕ) (a w : ℕ) (x : List ℕ) where
   abbrev RouteSays : ℕ → List ℕ → Type 0

@@ -16,31 +16,9 @@ use Rattle.region_map.specs.declared.map.RegionMap.{RegionMap}
 use Rattle.region_map.specs.declared.view.FlatRange.{FlatRange}
 use Rattle.region_map.specs.declared.view.FlatView.{FlatView}
 use Rattle.region_map.specs.Map.{noRegion, emptyMap}
+use Rattle.virtqueue.proofs.StoreLaws.{puts, stored, sets-append, over}
 use Rattle.virtqueue.specs.Words.{rangeWords, rangesWords}
 use Rattle.wicktumble.specs.Words.{regionAt, regionsAt, mapOf, regionWords, regionsWords}
-
--- ---- stores at a place and at the places behind it, as code names them
-abbrev puts : List ℕ → ℕ → ℕ → List ℕ → List ℕ
-puts l at j [] = l
-puts l at j (a ∷ vs) = puts (set l (at + j) a) at (suc j) vs
-
-puts-sets : (l : List ℕ) (at j : ℕ) (vs : List ℕ) → puts l at j vs ≡ sets l (at + j) vs
-puts-sets l at j [] = refl
-puts-sets l at j (a ∷ vs) = puts-sets (set l (at + j) a) at (suc j) vs ∙ ap (λ (k : ℕ). sets (set l (at + j) a) k vs) (add-suc at j)
-
-pub stored : (l : List ℕ) (at a : ℕ) (vs : List ℕ) → puts (set l at a) at 1 vs ≡ sets l at (a ∷ vs)
-stored l at a vs = puts-sets (set l at a) at 1 vs ∙ ap (λ (k : ℕ). sets (set l at a) k vs) (add-one at)
-
--- ---- runs of stores: one behind another, and one over the whole
-pub sets-append : (l : List ℕ) (i : ℕ) (xs ys : List ℕ) → sets l i (xs ++ ys) ≡ sets (sets l i xs) (i + length xs) ys
-sets-append l i [] ys = ap (λ (k : ℕ). sets l k ys) (sym (add-zero i))
-sets-append l i (a ∷ xs) ys =
-    sets-append (set l i a) (suc i) xs ys
-    ∙ ap (λ (k : ℕ). sets (sets (set l i a) (suc i) xs) k ys) (suc-add i (length xs) ∙ sym (add-suc i (length xs)))
-
-pub over : (vs w : List ℕ) → length w ≡ length vs → sets w 0 vs ≡ vs
-over vs w e =
-    sets-eq vs w 0 (omega (arith, e)) ∙ ap (λ (r : List ℕ). vs ++ r) (drop-of-length-le w {i = 0 + length vs} (omega (arith, e))) ∙ append-nil vs
 
 -- ---- a list written as groups of k words behind one word
 pub record Written {A : Type 0} (f : A → List ℕ) (g : List A → List ℕ) (k : ℕ) : Type 0 where

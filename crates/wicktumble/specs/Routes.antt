@@ -6,7 +6,7 @@ use lib.Dec.{eqb}
 use lib.ListN.{length}
 use Rattle.region_map.specs.Reply.{numberOf}
 use Rattle.virtqueue.specs.Words.{viewOf}
-use Rattle.virtqueue.specs.Route.{routedWith, routedWithout, routeReply}
+use Rattle.virtqueue.specs.Route.{routedWith, routedWithout, routeReply, RoutedAll, allWith, allWithout}
 use Rattle.virtqueue.specs.declared.route.RouteAnswer.{RouteAnswer}
 use Rattle.virtqueue.specs.declared.route.RouteAnswer.the-variants.{Refused, Memory, Port}
 use Rattle.wicktumble.specs.Words.{deviceOf, three, isView, isDevice, isResult}
@@ -29,3 +29,9 @@ routeBy view memory device a w =
 unfoldable pub routeCall : List ℕ → ℕ → List ℕ → ℕ → ℕ → List ℕ → Told
 routeCall view memory device a w result =
     cond (isView view && ((eqb (length device) 0 || isDevice device) && isResult result)) (routeTells (routeBy view memory device a w)) (untold result)
+
+-- many accesses at once, two words each, with four words for each answer; a device of no words is none
+unfoldable pub routeAllCall : List ℕ → ℕ → List ℕ → List ℕ → List ℕ → RoutedAll
+routeAllCall view memory device accesses answers =
+    cond (eqb (length device) 0) (allWithout (viewOf view) memory accesses answers)
+    (cond (isDevice device) (allWith (viewOf view) memory (deviceOf device) accesses answers) (record { number = 27; answers = answers }))

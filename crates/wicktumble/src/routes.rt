@@ -4,7 +4,7 @@ ghost use mathlib.Core.Bool.{true, _||_};
 ghost use lib.Dec.{eqb};
 ghost use Rattle.wicktumble.specs.Words.{isDevice};
 ghost use lib.ListN.{length};
-ghost use Rattle.wicktumble.specs.Routes.{routeWords, routeBy, routeCall};
+ghost use Rattle.wicktumble.specs.Routes.{routeWords, routeBy, routeCall, routeAllCall};
 use crate::words::device_of;
 use crate::words::put_three;
 use region_map::map::GuestAddress;
@@ -58,6 +58,27 @@ pub extern "C" fn wt_route(
         let answer = route_by(view, memory_length, device, address, width);
         put_route(result, answer);
         return route::number_of(answer);
+    }
+    27
+}
+
+#[no_mangle]
+pub extern "C" fn wt_route_all(
+    view: &[u64],
+    memory_length: u64,
+    device: &[u64],
+    accesses: &[u64],
+    answers: &mut [u64],
+) -> u64
+    ensures { λ r. ⌜ (r ≡ routeAllCall (now (view .entry)) «memory_length» (now (device .entry)) (now (accesses .entry)) (now (answers .entry)) .number)
+        × (now (answers .exit) ≡ routeAllCall (now (view .entry)) «memory_length» (now (device .entry)) (now (accesses .entry)) (now (answers .entry)) .answers) ⌝ }
+{
+    if device.len() == 0 {
+        return route::route_all_without_device(view, memory_length, accesses, answers);
+    }
+    if device.len() == 37 {
+        let d = device_of(device);
+        return route::route_all(view, memory_length, d, accesses, answers);
     }
     27
 }

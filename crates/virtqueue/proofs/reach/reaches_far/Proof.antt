@@ -8,7 +8,7 @@ use Rattle.memory_device.specs.Host.{pluggedAt}
 use Rattle.virtqueue.specs.Guest.{byView}
 use Rattle.virtqueue.specs.Words.{viewOf}
 use Rattle.virtqueue.proofs.ReachLaws.{all-true, past-all, turn-missed, turn-stops, turn-goes}
-use Rattle.virtqueue.proofs.StretchLaws.{some, view-full, read-below, read-low, read-high, read-offset, read-extends}
+use Rattle.virtqueue.proofs.StretchLaws.{some, view-full, read-below, read-low, read-high, read-offset, read-end, read-extends}
 use borrow.Author.Needs.{needs}
 use Rattle.virtqueue.proofs.reach.reaches_far.Statement.{statement}
 use Rattle.virtqueue.proofs.reach.reaches_far.Tie as tie
@@ -82,8 +82,16 @@ sub-how-far c =
     let s = c .before .before .before .before .before .before .before .before .before .before .before .before .before .before in
     read-high (viewOf (s .args .view .now)) (c .before .before .before .before .before .near .result) (c .before .before .before .before .before .before .before .before .before .count-of .result) (c .before .before .before .before .before .before .before .before .before .count-of .ensures) (c .before .before .before .before .if3 .left) (c .before .before .before .range-at .result) (c .before .before .before .range-at .ensures) (s .args .addr .0 + c .before .before .before .before .before .before .before .before .loop .done) (c .before .before .before .before .before .near .ensures)
 
+sub-how-far-2 : tie.Need-sub-how-far-2 Inv-loop μ-loop
+sub-how-far-2 c = omega (arith, c .before .before .before .before .before .before .before .loop-test .taken)
+
+sub-how-far-3 : tie.Need-sub-how-far-3 Inv-loop μ-loop
+sub-how-far-3 c = omega (arith, c .before .before .before .before .before .before .before .loop-test .taken)
+
 how-far-requires : tie.Need-how-far-requires Inv-loop μ-loop
-how-far-requires c κs = c .before .before .before .before .before .before .before .before .before .before .before .before .before .before .pre .1
+how-far-requires c κs =
+    let s = c .before .before .before .before .before .before .before .before .before .before .before .before .before .before in
+    (s .pre .1, omega (arith, read-end (viewOf (s .args .view .now)) (c .before .before .before .before .before .near .result) (c .before .before .before .before .before .before .before .before .before .count-of .result) (c .before .before .before .before .before .before .before .before .before .count-of .ensures) (c .before .before .before .before .if3 .left) (c .before .before .before .range-at .result) (c .before .before .before .range-at .ensures) (s .args .addr .0 + c .before .before .before .before .before .before .before .before .loop .done) (c .before .before .before .before .before .near .ensures) (s .pre .0 .ordered)))
 
 enum-told : tie.Need-enum-told Inv-loop μ-loop
 enum-told c = search needs
@@ -149,6 +157,8 @@ reaches-far-spec =
     sub-offset
     add-offset
     sub-how-far
+    sub-how-far-2
+    sub-how-far-3
     how-far-requires
     enum-told
     returns-4

@@ -1,0 +1,10 @@
+-- `virtqueue::route::answers_fit` meets its contract. Assumes nothing.
+use Rattle.virtqueue.proofs.RouteAllLaws.{fit-halves}
+use Rattle.virtqueue.proofs.route.answers_fit.Statement.{statement}
+use Rattle.virtqueue.proofs.route.answers_fit.Tie as tie
+
+returns : tie.Need-returns
+returns c = fit-halves (c .args .accesses .now) (c .args .answers .now)
+
+pub answers-fit-spec : {M : Type 1} → statement M
+answers-fit-spec = tie.close (tie.spec returns)
