@@ -43,6 +43,11 @@ static void *route(void *x) {
     wt_route(view, WT_VIEW, sizeof memory, device, WT_DEVICE, 0x100, 4, result, 3);
     return x;
 }
+static void *route_all(void *x) {
+    static uint64_t accesses[4] = {0x100, 4, 0x200, 8}, answers[8];
+    wt_route_all(view, WT_VIEW, sizeof memory, device, WT_DEVICE, accesses, 4, answers, 8);
+    return x;
+}
 static void *make_queue(void *x) { wt_make_queue(4, 0x1000, 0x1040, 0x1080, queue, WT_QUEUE); return x; }
 static void offer(void) { /* one PLUG of a block, as examples/plug.c puts it */
     memset(memory, 0, sizeof memory);
@@ -81,6 +86,7 @@ int main(void) {
     struct { const char *name; void *(*call)(void *); } calls[] = {
         {"wt_read_sheet", read_sheet}, {"wt_check_map", check_map}, {"wt_walk", walk}, {"wt_flatten", flatten},
         {"wt_set_up", set_up}, {"wt_pin", pin}, {"wt_configuration", configuration}, {"wt_route", route},
+        {"wt_route_all", route_all},
         {"wt_make_queue", make_queue}, {"wt_step", step}, {"wt_run", run}};
     for (size_t i = 0; i < sizeof calls / sizeof *calls; i++) {
         if (calls[i].call == step || calls[i].call == run) {
