@@ -13,6 +13,8 @@ mod RangeTests
 mod RenderLaws
 pub mod Replies
 mod ResolveLaws
+pub mod StoreLaws
+mod TreeWords
 pub mod UniqueLaws
 pub mod ViewLaws
 pub mod Visibility

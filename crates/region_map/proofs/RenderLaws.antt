@@ -3,7 +3,7 @@ use mathlib.Core.Path.{_≡_, refl, sym, ap, subst, _∙_}
 use mathlib.Core.Bool.{Bool, true, false, _||_}
 use mathlib.Core.List.{List}
 use mathlib.Core.Logic.{_⊎_, inl, inr, ⊎-elim}
-use Prim.Native.Nat.{ℕ, zero, suc, _+_, _-_, _%_, _≤_, _<_}
+use Prim.Native.Nat.{ℕ, zero, suc, _+_, _-_, _%_, _^_, _≤_, _<_}
 use native.Mathlib.Nat.{add-zero, add-suc, not-suc-le-zero}
 use native.Mathlib.Decide.{ℕ-discrete, decLt}
 use native.Mathlib.Omega.{arith}
@@ -16,6 +16,7 @@ use Rattle.region_map.specs.Span.{shift, Walkable, NextChild}
 use Rattle.region_map.specs.FlatList.{extend, flat}
 use Rattle.region_map.specs.Flatten.{Grew}
 use Rattle.region_map.specs.Pieces.{countOf, horizonOf, startOf, firstOf, endOf, regionOf, offsetOf, window, itself, pieceGives, given, shown, Pieces, Behind, Whole}
+use Rattle.region_map.specs.declared.map.Region.{Region}
 use Rattle.region_map.specs.declared.map.RegionMap.{RegionMap}
 use Rattle.region_map.specs.declared.resolve.Resolved.{Resolved}
 use Rattle.region_map.specs.declared.resolve.Resolved.the-variants.{Nothing, At}
@@ -110,43 +111,53 @@ behind-size k b = b .kept .size ∙ sym (k .size)
 
 -- What the tree puts there.
 
-pub nothing-there : (m : RegionMap) (n : ℕ) (w : List ℕ) (first offset end : ℕ) → Pieces w → (leb end first || leb (region m n .size) offset) ≡ true → Behind w (window (walk m n) first offset end) w
-nothing-there m n w first offset end k e = behind-none w _ k (λ a h. window-is (walk m n) first offset end a Nothing (λ p q. go a p q (leb end first) refl e) (λ _. refl) (λ _. refl))
-  where
-    go : (a : ℕ) → first ≤ a → a < end → (b : Bool) → leb end first ≡ b → (b || leb (region m n .size) offset) ≡ true → walk m n (offset + (a - first)) ≡ Nothing
-    go a p q true t d = absurd (omega (arith, leb-true end first t))
-    go a p q false t d = past m n (offset + (a - first)) (omega (arith, leb-true (region m n .size) offset d))
+-- x is region n, read out of the map
+module _ (m : RegionMap) (n : ℕ) (x : Region) (same : x ≡ region m n) where
+  pub region-facts : Walkable m → n < m .count → (x .size ≤ 2 ^ 48) × (x .«alias_offset» ≤ 2 ^ 48) × (x .kind ≡ 3 → x .target < n)
+  region-facts s i = subst (λ (y : Region). (y .size ≤ 2 ^ 48) × (y .«alias_offset» ≤ 2 ^ 48) × (y .kind ≡ 3 → y .target < n)) (sym same) (s .sizes n i, s .aliases n i, s .targets n i)
 
-pub some-there : (m : RegionMap) (n first offset end : ℕ) → (leb end first || leb (region m n .size) offset) ≡ false → (first < end) × (offset < region m n .size)
-some-there m n first offset end e = (leb-false end first (or-left _ _ e), leb-false (region m n .size) offset (or-right (leb end first) _ e))
+  past-size : (a : ℕ) → x .size ≤ a → walk m n a ≡ Nothing
+  past-size = subst (λ (y : Region). (a : ℕ) → y .size ≤ a → walk m n a ≡ Nothing) (sym same) (past m n)
+
+  pub nothing-there : (w : List ℕ) (first offset end : ℕ) → Pieces w → (leb end first || leb (x .size) offset) ≡ true → Behind w (window (walk m n) first offset end) w
+  nothing-there w first offset end k e = behind-none w _ k (λ a h. window-is (walk m n) first offset end a Nothing (λ p q. go a p q (leb end first) refl e) (λ _. refl) (λ _. refl))
+    where
+      go : (a : ℕ) → first ≤ a → a < end → (b : Bool) → leb end first ≡ b → (b || leb (x .size) offset) ≡ true → walk m n (offset + (a - first)) ≡ Nothing
+      go a p q true t d = absurd (omega (arith, leb-true end first t))
+      go a p q false t d = past-size (offset + (a - first)) (omega (arith, leb-true (x .size) offset d))
+
+pub some-there : (size first offset end : ℕ) → (leb end first || leb size offset) ≡ false → (first < end) × (offset < size)
+some-there size first offset end e = (leb-false end first (or-left _ _ e), leb-false size offset (or-right (leb end first) _ e))
 
 pub not-reached : (f : ℕ → Resolved) (w : List ℕ) (first offset end : ℕ) → Pieces w → horizonOf w ≤ first → Behind w (window f first offset end) w
 not-reached f w first offset end k h = behind-none w _ k (λ a l. window-before f first offset end a (omega arith))
 
-module _ (m : RegionMap) (n : ℕ) {w v : List ℕ} (first offset end r : ℕ) (some : first < end) (inside : offset < region m n .size)
-    (one : r ≤ end - first) (two : r ≤ region m n .size - offset) (less : r < end - first → region m n .size - offset ≤ r) where
-  pub through-alias : Walkable m → n < m .count → region m n .kind ≡ 3 → Behind w (window (walk m (region m n .target)) first (offset + region m n .«alias_offset») (first + r)) v
+module _ (m : RegionMap) (n : ℕ) (x : Region) (same : x ≡ region m n) {w v : List ℕ} (first offset end r : ℕ) (some : first < end) (inside : offset < x .size)
+    (one : r ≤ end - first) (two : r ≤ x .size - offset) (less : r < end - first → x .size - offset ≤ r) where
+  pub through-alias : Walkable m → n < m .count → x .kind ≡ 3 → Behind w (window (walk m (x .target)) first (offset + x .«alias_offset») (first + r)) v
       → Behind w (window (walk m n) first offset end) v
-  through-alias s i e b = behind-ext (window-clip (walk m n) (walk m (region m n .target)) (region m n .size) (region m n .«alias_offset»)
-      (walk-alias m s n i e) (past m n) first offset end r (omega arith) (omega arith) one two less) b
+  through-alias s i e b = behind-ext (window-clip (walk m n) (walk m (x .target)) (x .size) (x .«alias_offset»)
+      (subst (λ (y : Region). y .kind ≡ 3 → (a : ℕ) → a < y .size → walk m n a ≡ walk m (y .target) (a + y .«alias_offset»)) (sym same) (walk-alias m s n i) e)
+      (past-size m n x same) first offset end r (omega arith) (omega arith) one two less) b
 
-  pub through-children : (region m n .kind ≡ 3 → ⊥) → Behind w (window (tried m (walkBelow m n) n 8192) first offset (first + r)) v
+  pub through-children : (x .kind ≡ 3 → ⊥) → Behind w (window (tried m (walkBelow m n) n 8192) first offset (first + r)) v
       → Behind w (window (walk m n) first offset end) v
   through-children e b =
       let z : offset + 0 ≡ offset = add-zero offset in
-      behind-ext (λ a. window-clip (walk m n) (tried m (walkBelow m n) n 8192) (region m n .size) 0
-      (λ x h. walk-inside m n e x h ∙ ap (tried m (walkBelow m n) n 8192) (sym (add-zero x))) (past m n) first offset end r (omega arith) (omega arith) one two less a
+      let inner = subst (λ (y : Region). (y .kind ≡ 3 → ⊥) → (a : ℕ) → a < y .size → walk m n a ≡ tried m (walkBelow m n) n 8192 a) (sym same) (walk-inside m n) e in
+      behind-ext (λ a. window-clip (walk m n) (tried m (walkBelow m n) n 8192) (x .size) 0
+      (λ o h. inner o h ∙ ap (tried m (walkBelow m n) n 8192) (sym (add-zero o))) (past-size m n x same) first offset end r (omega arith) (omega arith) one two less a
       ∙ ap (λ (o : ℕ). window (tried m (walkBelow m n) n 8192) first o (first + r) a) z) b
 
 -- The children of n, and n itself.
 
 module _ (m : RegionMap) (n b r first offset end : ℕ) (next : NextChild m n b r) where
-  pub the-node : {w v : List ℕ} → r ≡ 0 → (region m n .kind ≡ 0 → ⊥) → Behind w (window (itself n) first offset end) v
+  pub the-node : {w v : List ℕ} (x : Region) → x ≡ region m n → r ≡ 0 → (x .kind ≡ 0 → ⊥) → Behind w (window (itself n) first offset end) v
       → Behind w (window (tried m (walkBelow m n) n b) first offset end) v
-  the-node e k d = behind-ext (window-ext (tried m (walkBelow m n) n b) (itself n) (λ x. tried-none m _ n b r next e x ∙ own-is m n k x) first offset end) d
+  the-node x same e k d = behind-ext (window-ext (tried m (walkBelow m n) n b) (itself n) (λ x. tried-none m _ n b r next e x ∙ own-is m n (λ z. k (ap (λ (y : Region). y .kind) same ∙ z)) x) first offset end) d
 
-  pub no-node : (w : List ℕ) → Pieces w → r ≡ 0 → region m n .kind ≡ 0 → Behind w (window (tried m (walkBelow m n) n b) first offset end) w
-  no-node w p e k = behind-none w _ p (λ a h. window-nothing (tried m (walkBelow m n) n b) (λ x. tried-none m _ n b r next e x ∙ own-none m n k x) first offset end a)
+  pub no-node : (w : List ℕ) (x : Region) → x ≡ region m n → Pieces w → r ≡ 0 → x .kind ≡ 0 → Behind w (window (tried m (walkBelow m n) n b) first offset end) w
+  no-node w x same p e k = behind-none w _ p (λ a h. window-nothing (tried m (walkBelow m n) n b) (λ x. tried-none m _ n b r next e x ∙ own-none m n (sym (ap (λ (y : Region). y .kind) same) ∙ k) x) first offset end a)
 
   pub child-then : {w v u : List ℕ} → (r ≡ 0 → ⊥) → Behind w (window (answer m (walkBelow m n) n (r - 1)) first offset end) v → Behind v (window (tried m (walkBelow m n) n (r - 1)) first offset end) u
       → Behind w (window (tried m (walkBelow m n) n b) first offset end) u
@@ -154,38 +165,44 @@ module _ (m : RegionMap) (n b r first offset end : ℕ) (next : NextChild m n b 
       ∙ window-orElse (answer m (walkBelow m n) n (r - 1)) (tried m (walkBelow m n) n (r - 1)) first offset end a) (behind-then d g)
 
 -- A child, which begins at or before the window, inside it, or not before its end.
-module _ (m : RegionMap) (n k first offset end : ℕ) (child : ranked m n k ≡ true) where
-  pub child-begun : {w v : List ℕ} → region m (k % 32) .offset ≤ offset → Behind w (window (walk m (k % 32)) first (offset - region m (k % 32) .offset) end) v
+module _ (m : RegionMap) (n k : ℕ) (x : Region) (read : x ≡ region m (k % 32)) (first offset end : ℕ) (child : ranked m n k ≡ true) where
+  from-child : (a : ℕ) → x .offset ≤ a → answer m (walkBelow m n) n k a ≡ walk m (k % 32) (a - x .offset)
+  from-child = subst (λ (y : Region). (a : ℕ) → y .offset ≤ a → answer m (walkBelow m n) n k a ≡ walk m (k % 32) (a - y .offset)) (sym read) (child-at m n k child)
+
+  before-child : (a : ℕ) → a < x .offset → answer m (walkBelow m n) n k a ≡ Nothing
+  before-child = subst (λ (y : Region). (a : ℕ) → a < y .offset → answer m (walkBelow m n) n k a ≡ Nothing) (sym read) (child-before m n k child)
+
+  pub child-begun : {w v : List ℕ} → x .offset ≤ offset → Behind w (window (walk m (k % 32)) first (offset - x .offset) end) v
       → Behind w (window (answer m (walkBelow m n) n k) first offset end) v
   child-begun h d = behind-ext same d
     where
-      same : (a : ℕ) → window (answer m (walkBelow m n) n k) first offset end a ≡ window (walk m (k % 32)) first (offset - region m (k % 32) .offset) end a
+      same : (a : ℕ) → window (answer m (walkBelow m n) n k) first offset end a ≡ window (walk m (k % 32)) first (offset - x .offset) end a
       same a = window-is (answer m (walkBelow m n) n k) first offset end a _
           (λ p q.
-          let z : offset + (a - first) - region m (k % 32) .offset ≡ offset - region m (k % 32) .offset + (a - first) = omega arith in
-          child-at m n k child (offset + (a - first)) (omega arith) ∙ ap (walk m (k % 32)) z ∙ sym (window-in (walk m (k % 32)) first (offset - region m (k % 32) .offset) end a p q))
-          (λ p. sym (window-before (walk m (k % 32)) first (offset - region m (k % 32) .offset) end a p))
-          (λ p. sym (window-past (walk m (k % 32)) first (offset - region m (k % 32) .offset) end a p))
+          let z : offset + (a - first) - x .offset ≡ offset - x .offset + (a - first) = omega arith in
+          from-child (offset + (a - first)) (omega arith) ∙ ap (walk m (k % 32)) z ∙ sym (window-in (walk m (k % 32)) first (offset - x .offset) end a p q))
+          (λ p. sym (window-before (walk m (k % 32)) first (offset - x .offset) end a p))
+          (λ p. sym (window-past (walk m (k % 32)) first (offset - x .offset) end a p))
 
-  pub child-ahead : {w v : List ℕ} → offset < region m (k % 32) .offset → Behind w (window (walk m (k % 32)) (first + (region m (k % 32) .offset - offset)) 0 end) v
+  pub child-ahead : {w v : List ℕ} → offset < x .offset → Behind w (window (walk m (k % 32)) (first + (x .offset - offset)) 0 end) v
       → Behind w (window (answer m (walkBelow m n) n k) first offset end) v
   child-ahead h d = behind-ext same d
     where
-      same : (a : ℕ) → window (answer m (walkBelow m n) n k) first offset end a ≡ window (walk m (k % 32)) (first + (region m (k % 32) .offset - offset)) 0 end a
-      same a = window-is (answer m (walkBelow m n) n k) first offset end a _ (λ p q. inner p q (decLt a (first + (region m (k % 32) .offset - offset))))
-          (λ p. sym (window-before (walk m (k % 32)) (first + (region m (k % 32) .offset - offset)) 0 end a (omega arith)))
-          (λ p. sym (window-past (walk m (k % 32)) (first + (region m (k % 32) .offset - offset)) 0 end a p))
+      same : (a : ℕ) → window (answer m (walkBelow m n) n k) first offset end a ≡ window (walk m (k % 32)) (first + (x .offset - offset)) 0 end a
+      same a = window-is (answer m (walkBelow m n) n k) first offset end a _ (λ p q. inner p q (decLt a (first + (x .offset - offset))))
+          (λ p. sym (window-before (walk m (k % 32)) (first + (x .offset - offset)) 0 end a (omega arith)))
+          (λ p. sym (window-past (walk m (k % 32)) (first + (x .offset - offset)) 0 end a p))
         where
-          inner : first ≤ a → a < end → Dec (a < first + (region m (k % 32) .offset - offset)) → answer m (walkBelow m n) n k (offset + (a - first)) ≡ window (walk m (k % 32)) (first + (region m (k % 32) .offset - offset)) 0 end a
-          inner p q (yes l) = child-before m n k child (offset + (a - first)) (omega arith) ∙ sym (window-before (walk m (k % 32)) (first + (region m (k % 32) .offset - offset)) 0 end a l)
+          inner : first ≤ a → a < end → Dec (a < first + (x .offset - offset)) → answer m (walkBelow m n) n k (offset + (a - first)) ≡ window (walk m (k % 32)) (first + (x .offset - offset)) 0 end a
+          inner p q (yes l) = before-child (offset + (a - first)) (omega arith) ∙ sym (window-before (walk m (k % 32)) (first + (x .offset - offset)) 0 end a l)
           inner p q (no l) =
-              let z : offset + (a - first) - region m (k % 32) .offset ≡ 0 + (a - (first + (region m (k % 32) .offset - offset))) = omega arith in
-              child-at m n k child (offset + (a - first)) (omega arith) ∙ ap (walk m (k % 32)) z ∙ sym (window-in (walk m (k % 32)) (first + (region m (k % 32) .offset - offset)) 0 end a (omega arith) q)
+              let z : offset + (a - first) - x .offset ≡ 0 + (a - (first + (x .offset - offset))) = omega arith in
+              from-child (offset + (a - first)) (omega arith) ∙ ap (walk m (k % 32)) z ∙ sym (window-in (walk m (k % 32)) (first + (x .offset - offset)) 0 end a (omega arith) q)
 
-  pub child-beyond : (w : List ℕ) → Pieces w → offset < region m (k % 32) .offset → end - first ≤ region m (k % 32) .offset - offset
+  pub child-beyond : (w : List ℕ) → Pieces w → offset < x .offset → end - first ≤ x .offset - offset
       → Behind w (window (answer m (walkBelow m n) n k) first offset end) w
   child-beyond w s h l = behind-none w _ s (λ a i. window-is (answer m (walkBelow m n) n k) first offset end a Nothing
-      (λ p q. child-before m n k child (offset + (a - first)) (omega arith)) (λ p. refl) (λ p. refl))
+      (λ p q. before-child (offset + (a - first)) (omega arith)) (λ p. refl) (λ p. refl))
 
 -- What the pieces give an address: nothing between them, and inside one the piece.
 

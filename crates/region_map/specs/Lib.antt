@@ -6,6 +6,7 @@ pub mod Check
 pub mod Sound
 pub mod Walk
 pub mod Span
+pub mod Words
 pub mod Resolve
 pub mod FlatList
 pub mod Pieces

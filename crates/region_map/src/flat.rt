@@ -20,6 +20,7 @@ use crate::resolve::root_offset;
 use crate::view::FlatRange;
 use crate::view::FlatView;
 use crate::view::empty_view;
+use crate::words::words_of;
 
 // What a range carries of its region: the kind, and the memory start or port.
 pub struct Backing {
@@ -183,6 +184,7 @@ pub fn sweep(map: RegionMap) -> Pushed
 {
     let root = map.count - 1;
     let size = map.regions[root].size;
+    let words = words_of(map);
     let mut table = [0u64; 1027];
     let mut view = empty_view();
     let mut at: u64 = 0;
@@ -190,7 +192,7 @@ pub fn sweep(map: RegionMap) -> Pushed
         let here = GuestAddress(at);
         let end = GuestAddress(size);
         begin(&mut table, here, end);
-        render(map, &mut table, root, here, root_offset(here), end);
+        render(&words, &mut table, root, here, root_offset(here), end);
         let grown = emit(map, view, &table);
         if grown.full {
             return grown;

@@ -12,3 +12,4 @@ pub mod resolve;
 mod search;
 pub mod view;
 mod walk;
+mod words;

@@ -3,35 +3,36 @@
 ghost use mathlib.Core.Path.{_≡_};
 ghost use Prim.Native.Nat.{_+_, _^_, _≤_, _<_};
 ghost use Rattle.region_map.specs.Walk.{walk as walkOf, tried, walkBelow};
-ghost use Rattle.region_map.specs.Span.{Walkable};
+ghost use Rattle.region_map.specs.Words.{treeOf, Tree};
 ghost use Rattle.region_map.specs.Pieces.{startOf, window, Pieces, Behind};
 use crate::children::next_child;
 use crate::map::ALIAS;
 use crate::map::CONTAINER;
 use crate::map::GuestAddress;
-use crate::map::RegionMap;
 use crate::map::RegionOffset;
 use crate::pieces::fill;
 use crate::pieces::least;
+use crate::words::region_at;
 
 // More than every rank of a child.
 const RANKS: usize = 8192;
 
 // Region n, from an offset on, at the addresses from first up to end.
 pub fn render(
-    map: RegionMap,
+    map: &[u64],
     table: &mut [u64],
     n: usize,
     first: GuestAddress,
     offset: RegionOffset,
     end: GuestAddress,
 )
-    requires { ⌜ Walkable map × (n < map .count) ⌝ }
+    requires { ⌜ Tree (now map) × (n < treeOf (now map) .count) ⌝ }
     requires { ⌜ Pieces (now table) ⌝ }
     requires { ⌜ (startOf (now table) ≤ first .0) × (end .0 ≤ 2 ^ 48) × (offset .0 ≤ 2 ^ 49) ⌝ }
-    ensures { λ _. ⌜ Behind (now (table .entry)) (window (walkOf map n) (first .0) (offset .0) (end .0)) (now (table .exit)) ⌝ }
+    ensures { λ _. ⌜ Behind (now (table .entry)) (window (walkOf (treeOf (now (map .entry))) n) (first .0) (offset .0) (end .0)) (now (table .exit)) ⌝ }
 {
-    let size = map.regions[n].size;
+    let region = region_at(map, n);
+    let size = region.size;
     if (end.0 <= first.0) | (size <= offset.0) {
         return;
     }
@@ -39,16 +40,13 @@ pub fn render(
         return;
     }
     let stop = first.0 + least(end.0 - first.0, size - offset.0);
-    let kind = map.regions[n].kind;
-    if kind == ALIAS {
-        let target = map.regions[n].target;
-        let skipped = map.regions[n].alias_offset;
+    if region.kind == ALIAS {
         render(
             map,
             table,
-            target,
+            region.target,
             first,
-            RegionOffset(offset.0 + skipped),
+            RegionOffset(offset.0 + region.alias_offset),
             GuestAddress(stop),
         );
     } else {
@@ -58,7 +56,7 @@ pub fn render(
 
 // The children of n whose ranks are below `below`, highest first, and then n itself.
 fn render_children(
-    map: RegionMap,
+    map: &[u64],
     table: &mut [u64],
     n: usize,
     first: GuestAddress,
@@ -66,22 +64,23 @@ fn render_children(
     end: GuestAddress,
     below: usize,
 )
-    requires { ⌜ Walkable map × (n < map .count) × (below ≤ 8192) ⌝ }
+    requires { ⌜ Tree (now map) × (n < treeOf (now map) .count) × (below ≤ 8192) ⌝ }
     requires { ⌜ Pieces (now table) ⌝ }
     requires { ⌜ (startOf (now table) ≤ first .0) × (first .0 ≤ end .0) × (end .0 ≤ 2 ^ 48) × (offset .0 ≤ 2 ^ 48) ⌝ }
-    ensures { λ _. ⌜ Behind (now (table .entry)) (window (tried map (walkBelow map n) n below) (first .0) (offset .0) (end .0)) (now (table .exit)) ⌝ }
+    ensures { λ _. ⌜ Behind (now (table .entry)) (window (tried (treeOf (now (map .entry))) (walkBelow (treeOf (now (map .entry))) n) n below) (first .0) (offset .0) (end .0)) (now (table .exit)) ⌝ }
 {
     let next = next_child(map, n, below);
     if next == 0 {
-        let kind = map.regions[n].kind;
-        if kind != CONTAINER {
+        let region = region_at(map, n);
+        if region.kind != CONTAINER {
             fill(table, n, first, offset, end);
         }
         return;
     }
     let left = next - 1;
     let c = left % 32;
-    let begins = map.regions[c].offset;
+    let child = region_at(map, c);
+    let begins = child.offset;
     if begins <= offset.0 {
         render(map, table, c, first, RegionOffset(offset.0 - begins), end);
     } else {

@@ -8,6 +8,7 @@ use crate::map::GuestAddress;
 use crate::map::RegionMap;
 use crate::map::RegionOffset;
 use crate::walk::walk;
+use crate::words::words_of;
 
 // What the tree answers at an address: nothing, or a region with the offset inside it.
 pub enum Resolved {
@@ -35,7 +36,8 @@ pub fn resolve_address(map: RegionMap, memory_length: u64, address: GuestAddress
     let answer = check_map(map, memory_length);
     if accepts(answer) {
         let root = map.count - 1;
-        let led = walk(map, root, root_offset(address));
+        let words = words_of(map);
+        let led = walk(&words, root, root_offset(address));
         return Resolution::Answered(led);
     }
     Resolution::Refused(answer)

@@ -14,7 +14,6 @@ pub mod RuleLaws
 pub mod RunLaws
 pub mod RunSteps
 pub mod StepLaws
-pub mod StoreLaws
 mod StretchLaws
 pub mod TakeLaws
 pub mod TreeLaws

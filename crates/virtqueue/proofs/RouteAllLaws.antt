@@ -22,7 +22,7 @@ use Rattle.virtqueue.specs.Route.{routed, routedWith, routedWithout, ans
 use Rattle.virtqueue.specs.Contracts.{noDevice}
 use Rattle.virtqueue.specs.declared.route.RouteAnswer.{RouteAnswer}
 use Rattle.virtqueue.specs.declared.route.RouteAnswer.the-variants.{Refused, Memory, Port}
-use Rattle.virtqueue.proofs.StoreLaws.{stored, sets-append, over}
+use Rattle.region_map.proofs.StoreLaws.{stored, sets-append, over}
 use Rattle.virtqueue.proofs.RouteLaws.{nothing-plugged}
 
 -- ---- do the answers fit the accesses?

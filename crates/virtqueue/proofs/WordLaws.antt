@@ -19,7 +19,7 @@ use Rattle.memory_device.proofs.TableLaws.{eq-or-not}
 use Rattle.virtqueue.specs.View.{viewOk}
 use Rattle.virtqueue.specs.Words.{rangeAt, rangesAt, noView, viewOf, rangeWords, rangesWords, viewWords}
 use Rattle.virtqueue.proofs.RuleLaws.{view-many}
-use Rattle.virtqueue.proofs.StoreLaws.{puts, stored, sets-append, over}
+use Rattle.region_map.proofs.StoreLaws.{puts, stored, sets-append, over}
 
 -- ---- ranges read in turn
 ranges-length : (w : List ℕ) (at n : ℕ) → length (rangesAt w at n) ≡ n

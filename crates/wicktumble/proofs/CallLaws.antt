@@ -41,7 +41,8 @@ use Rattle.virtqueue.specs.declared.step.Stepped.{Stepped}
 use Rattle.virtqueue.specs.declared.run.Ran.{Ran}
 use Rattle.wicktumble.proofs.DeviceWords.{map-zero, passing, stopping}
 use Rattle.virtqueue.specs.Words.{viewOf, viewWords}
-use Rattle.wicktumble.specs.Words.{mapOf, mapWords, deviceOf, deviceWords, queueFits, queueOf, queueWords, three, replyWords, isMap, isView, isDevice, isQueue, isResult}
+use Rattle.region_map.specs.Words.{mapWords}
+use Rattle.wicktumble.specs.Words.{mapOf, deviceOf, deviceWords, queueFits, queueOf, queueWords, three, replyWords, isMap, isView, isDevice, isQueue, isResult}
 use Rattle.wicktumble.specs.Maps.{readCall, checkCall, answerWords, walkCall, flattenCall}
 use Rattle.wicktumble.specs.Queues.{makeCall, resetQueueCall, recordsFit, outcomeNumber, outcomeWords, stepCall, endNumber, isIdle, runCall}
 use Rattle.wicktumble.specs.Routes.{routeWords, routeBy, routeCall, routeAllCall}

@@ -31,7 +31,7 @@ use Rattle.memory_device.specs.declared.setup.SetUp.{SetUp}
 use Rattle.memory_device.specs.declared.setup.SetUpAnswer.{SetUpAnswer}
 use Rattle.memory_device.specs.declared.setup.SetUpAnswer.the-variants as setup
 use Rattle.wicktumble.specs.Words.{mapOf, deviceOf, deviceWords, queueFits, replyWords, isMap, isDevice, isResult}
-use Rattle.virtqueue.proofs.StoreLaws.{sets-append, over}
+use Rattle.region_map.proofs.StoreLaws.{sets-append, over}
 use Rattle.wicktumble.specs.Devices.{changes, onDevice, setUpCall, configurationCall}
 
 -- two runs of stores, one after the other

@@ -16,9 +16,10 @@ use Rattle.region_map.specs.declared.map.RegionMap.{RegionMap}
 use Rattle.region_map.specs.declared.view.FlatRange.{FlatRange}
 use Rattle.region_map.specs.declared.view.FlatView.{FlatView}
 use Rattle.region_map.specs.Map.{noRegion, emptyMap}
-use Rattle.virtqueue.proofs.StoreLaws.{puts, stored, sets-append, over}
+use Rattle.region_map.proofs.StoreLaws.{puts, stored, sets-append, over}
 use Rattle.virtqueue.specs.Words.{rangeWords, rangesWords}
-use Rattle.wicktumble.specs.Words.{regionAt, regionsAt, mapOf, regionWords, regionsWords}
+use Rattle.region_map.specs.Words.{regionAt, regionsAt, regionWords, regionsWords}
+use Rattle.wicktumble.specs.Words.{mapOf}
 
 -- ---- a list written as groups of k words behind one word
 pub record Written {A : Type 0} (f : A → List ℕ) (g : List A → List ℕ) (k : ℕ) : Type 0 where

@@ -10,7 +10,8 @@ use Rattle.region_map.specs.declared.resolve.Resolved.{Resolved}
 use Rattle.region_map.specs.declared.resolve.Resolved.the-variants.{Nothing, At}
 use Rattle.sheet.specs.Sheet as sheet
 use Rattle.virtqueue.specs.Words.{viewWords}
-use Rattle.wicktumble.specs.Words.{mapOf, mapWords, three, replyWords, isMap, isView, isResult}
+use Rattle.region_map.specs.Words.{mapWords}
+use Rattle.wicktumble.specs.Words.{mapOf, three, replyWords, isMap, isView, isResult}
 
 -- a number and a result; with a record that is written
 pub record Told : Type 0 where

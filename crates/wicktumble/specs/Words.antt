@@ -5,6 +5,7 @@ use Prim.Native.Nat.{ℕ, zero, suc, _+_, _-_, _*_, min}
 use lib.Dec.{eqb, leb}
 use lib.ListN.{length, getD, take, drop, replicate}
 use Rattle.region_map.specs.Map.{noRegion}
+use Rattle.region_map.specs.Words.{regionsAt}
 use Rattle.region_map.specs.Flatten.{noRange}
 use Rattle.region_map.specs.Reply.{Reply, accepted, nodes, place, plain}
 use Rattle.region_map.specs.declared.map.Region.{Region}
@@ -15,37 +16,8 @@ use Rattle.memory_device.specs.declared.device.MemoryDevice.{MemoryDevice}
 use Rattle.virtqueue.specs.declared.queue.SplitQueue.{SplitQueue}
 
 -- a map of 289 words: the count, and 32 regions of 9; regions past the count are taken as zero
-abbrev pub regionAt : List ℕ → ℕ → Region
-regionAt w at =
-    record {
-      kind = getD w at 0;
-      parent = getD w (at + 1) 0;
-      offset = getD w (at + 2) 0;
-      size = getD w (at + 3) 0;
-      priority = getD w (at + 4) 0;
-      «memory_start» = getD w (at + 5) 0;
-      port = getD w (at + 6) 0;
-      target = getD w (at + 7) 0;
-      «alias_offset» = getD w (at + 8) 0;
-    }
-
-unfoldable pub regionsAt : List ℕ → ℕ → ℕ → List Region
-regionsAt w at zero = []
-regionsAt w at (suc n) = regionAt w at ∷ regionsAt w (at + 9) n
-
 unfoldable pub mapOf : List ℕ → RegionMap
 mapOf w = record { count = getD w 0 0; regions = regionsAt w 1 (min (getD w 0 0) 32) ++ replicate (32 - min (getD w 0 0) 32) noRegion }
-
-abbrev pub regionWords : Region → List ℕ
-regionWords r =
-    r .kind ∷ r .parent ∷ r .offset ∷ r .size ∷ r .priority ∷ r .«memory_start» ∷ r .port ∷ r .target ∷ r .«alias_offset» ∷ []
-
-unfoldable pub regionsWords : List Region → List ℕ
-regionsWords [] = []
-regionsWords (r ∷ rs) = regionWords r ++ regionsWords rs
-
-unfoldable pub mapWords : RegionMap → List ℕ
-mapWords m = m .count ∷ regionsWords (m .regions)
 
 -- a device of 37 words
 unfoldable pub deviceOf : List ℕ → MemoryDevice

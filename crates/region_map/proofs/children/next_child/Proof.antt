@@ -1,14 +1,15 @@
 -- `region_map::children::next_child` meets its contract. The loop's invariant: `best` is 0 or one more than a child's rank below `below`, and no node that
 -- was looked at has a higher one below it. The measure is what is left of the nodes below n. Assumes nothing.
-use borrow.Author.Needs.{needs}
-use mathlib.Core.Path.{_≡_, refl, subst, sym, _∙_}
+use mathlib.Core.Path.{_≡_, refl, subst, sym, ap, _∙_}
 use mathlib.Core.Bool.{Bool, true, false}
 use mathlib.Core.Logic.{_⊎_, inl, inr, ⊎-elim}
 use Prim.Native.Nat.{ℕ, _+_, _-_, _%_, _≤_, _<_}
 use native.Mathlib.Omega.{arith}
+use Rattle.region_map.specs.declared.map.Region.{Region}
 use Rattle.region_map.specs.declared.map.RegionMap.{RegionMap}
 use Rattle.region_map.specs.Map.{region}
 use Rattle.region_map.specs.Walk.{rank, ranked}
+use Rattle.region_map.specs.Words.{treeOf}
 use Rattle.region_map.proofs.WalkLaws.{looked, is-ranked, child-below}
 use Rattle.region_map.proofs.children.next_child.Statement.{statement}
 use Rattle.region_map.proofs.children.next_child.Tie as tie
@@ -34,56 +35,69 @@ only true f = f refl
 only false f = refl
 
 abbrev Inv-loop : tie.InvT-loop
-Inv-loop n below m best₀ c₀ best c = Looked m n below best c
+Inv-loop map n below best₀ c₀ best c = Looked (treeOf map) n below best c
 
 abbrev μ-loop : tie.MeasureT-loop
-μ-loop n below m best₀ c₀ best c = n - c
+μ-loop map n below best₀ c₀ best c = n - c
 
 loop-holds : tie.Need-loop-holds Inv-loop μ-loop
 loop-holds c = (omega arith, omega arith, λ k e. absurd (omega arith), λ k a b d. absurd (omega arith))
 
-mul-parent : tie.Need-mul-parent Inv-loop μ-loop
-mul-parent c = search needs
-
-element-copy-out-parent : tie.Need-element-copy-out-parent Inv-loop μ-loop
-element-copy-out-parent c = search needs
+region-at-requires : tie.Need-region-at-requires Inv-loop μ-loop
+region-at-requires c κs =
+    let s = c .before .before .before in
+    (s .pre .0 .words, omega (arith, c .loop-test .taken, s .pre .1, s .pre .0 .walkable .count))
 
 add-if1 : tie.Need-add-if1 Inv-loop μ-loop
-add-if1 c = search needs
+add-if1 c =
+    let s = c .before .before .before .before in
+    omega (arith, s .pre .1, s .pre .0 .walkable .count)
 
 rank-requires : tie.Need-rank-requires Inv-loop μ-loop
-rank-requires c κs = (c .before .before .before .pre .0, omega arith)
+rank-requires c κs =
+    let s = c .before .before .before .before .before .before in
+    (s .pre .0, omega (arith, c .before .before .before .loop-test .taken, s .pre .1))
 
 add-best : tie.Need-add-best Inv-loop μ-loop
-add-best c = search needs
+add-best c =
+    let s = c .before .before .before .before .before .before .before .before .before in
+    omega (arith, c .before .if2 .taken, s .pre .2)
 
 add-c : tie.Need-add-c Inv-loop μ-loop
-add-c c = search needs
+add-c c =
+    let s = c .before .before .before .before .before .before in
+    omega (arith, c .before .before .before .loop-test .taken, s .pre .1, s .pre .0 .walkable .count)
 
 loop-less : tie.Need-loop-less Inv-loop μ-loop
-loop-less c = search needs
+loop-less c = omega (arith, c .before .before .before .loop-test .taken)
 
 loop-again : tie.Need-loop-again Inv-loop μ-loop
 loop-again c =
-    let a = c .before .before .before .args in
-    let l = c .before .before .loop in
-    let go-on : (c .if1 .best ≡ l .best) → (region (a .t1) (l .c) .parent ≡ a .n + 1 → (rank (a .t1) (l .c) < l .best) ⊎ (a .below ≤ rank (a .t1) (l .c))) → Looked (a .t1) (a .n) (a .below) (c .if1 .best) (l .c + 1)
-    = kept (a .t1) (a .n) (a .below) (l .best) (c .if1 .best) (l .c) (l .inv) (c .before .loop-test .taken) in
+    let s = c .before .before .before .before .before .before in
+    let a = s .args in
+    let m = treeOf (a .map .now) in
+    let l = c .before .before .before .before .loop in
+    let lt = c .before .before .before .loop-test .taken in
+    let parent = ap (λ (r : Region). r .parent) (c .before .before .region-at .ensures) in
+    let go-on : (c .if1 .best ≡ l .best) → (region m (l .c) .parent ≡ a .n + 1 → (rank m (l .c) < l .best) ⊎ (a .below ≤ rank m (l .c))) → Looked m (a .n) (a .below) (c .if1 .best) (l .c + 1)
+    = kept m (a .n) (a .below) (l .best) (c .if1 .best) (l .c) (l .inv) lt in
     ⊎-elim
-    (λ w. found (a .t1) (a .n) (a .below) (l .best) (c .if1 .best) (l .c) (l .inv) (c .before .loop-test .taken) (omega arith) (omega arith) (w .0 .taken) (omega arith) (omega arith))
-    (⊎-elim (λ w. go-on (w .4) (λ _. inl (omega arith)))
-    (⊎-elim (λ w. go-on (w .3) (λ _. inr (omega arith)))
-    (λ w. go-on (w .1) (λ p. absurd (w .0 .left p)))))
+    (λ w. found m (a .n) (a .below) (l .best) (c .if1 .best) (l .c) (l .inv) lt (omega (arith, lt, s .pre .1, s .pre .0 .walkable .count)) (omega (arith, w)) (sym parent ∙ w .0 .taken) (omega (arith, w)) (omega (arith, w)))
+    (⊎-elim (λ w. go-on (w .4) (λ _. inl (omega (arith, w))))
+    (⊎-elim (λ w. go-on (w .3) (λ _. inr (omega (arith, w))))
+    (λ w. go-on (w .1) (λ p. absurd (w .0 .left (parent ∙ p))))))
     (c .if1 .came)
 
 returns : tie.Need-returns Inv-loop μ-loop
 returns c =
     let l = c .before .loop in
+    let a = c .before .before .before .args in
+    let m = treeOf (a .map .now) in
     record {
       within = l .inv .1;
       found = l .inv .2;
-      above = λ k a b. only (ranked (c .before .before .args .t1) (c .before .before .args .n) k)
-          (λ e. l .inv .3 k a b (let h : k % 32 < c .before .before .args .n = child-below (c .before .before .args .t1) _ k e in omega arith));
+      above = λ k x y. only (ranked m (a .n) k)
+          (λ e. l .inv .3 k x y (let h : k % 32 < a .n = child-below m _ k e in omega (arith, h, c .loop-test .left)));
     }
 
 pub next-child-spec : {M : Type 1} → statement M
@@ -93,8 +107,7 @@ next-child-spec =
     Inv-loop
     μ-loop
     loop-holds
-    mul-parent
-    element-copy-out-parent
+    region-at-requires
     add-if1
     rank-requires
     add-best

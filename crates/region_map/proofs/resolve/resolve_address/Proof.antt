@@ -1,14 +1,18 @@
 -- `region_map::resolve::resolve_address` meets its contract. Assumes nothing.
-use Rattle.region_map.proofs.ResolveLaws.{led, not-led}
-use Rattle.region_map.proofs.Accepted.{is-accepted, accepted-sound, accepted-walkable}
-use Rattle.region_map.specs.Walk.{walk, walkRoot}
-use Rattle.region_map.specs.Check.{Accepted}
-use Prim.Native.Nat.{_<_, _-_}
+use mathlib.Core.Path.{_≡_, sym, _∙_}
+use Prim.Native.Nat.{_<_}
 use native.Mathlib.Omega.{arith}
-use mathlib.Core.Path.{_≡_, sym, ap, _∙_}
+use lib.ListN.{length, length-map}
 use borrow.Author.Needs.{needs}
+use Rattle.region_map.specs.Check.{Accepted}
+use Rattle.region_map.proofs.Accepted.{is-accepted, accepted-sound, accepted-walkable}
+use Rattle.region_map.proofs.ResolveLaws.{led, not-led}
+use Rattle.region_map.proofs.TreeWords.{tree-of, root-in, walk-back}
 use Rattle.region_map.proofs.resolve.resolve_address.Statement.{statement}
 use Rattle.region_map.proofs.resolve.resolve_address.Tie as tie
+
+full : (s : tie.Start) → length (s .args .map .regions) ≡ 32
+full s = simp length-map at (s .good .0 .1 .1 .1 .0 .1 .0 .1)
 
 ok : (c : tie.Then1) → Accepted (c .before .before .before .args .map) (c .before .before .before .args .memory-length)
 ok c = is-accepted _ _ _ (c .before .before .check-map .ensures) (sym (c .before .accepts .ensures) ∙ c .if1 .taken)
@@ -25,15 +29,27 @@ accepts-requires c κs = search needs
 sub-root : tie.Need-sub-root
 sub-root c = omega (arith, some (c .before))
 
+words-of-requires : tie.Need-words-of-requires
+words-of-requires c κs = tt
+
+slice-aggregate-walk : tie.Need-slice-aggregate-walk
+slice-aggregate-walk c = search needs
+
 root-offset-requires : tie.Need-root-offset-requires
-root-offset-requires c κs = search needs
+root-offset-requires c κs = tt
 
 walk-requires : tie.Need-walk-requires
-walk-requires c κs = (accepted-walkable _ _ (ok (c .before .before)), omega (arith, some (c .before .before)))
+walk-requires c κs =
+    let t = c .before .before .before .before in
+    let m = c .before .before .before .before .before .before .before .args .map in
+    let w = c .before .before .words-of in
+    (tree-of m (full (c .before .before .before .before .before .before .before)) (w .result) (w .ensures) (accepted-walkable _ _ (ok t)), root-in m (full (c .before .before .before .before .before .before .before)) (w .result) (w .ensures) (some t))
 
 returns : tie.Need-returns
-unfolding walkRoot
-returns c = led _ _ _ _ (ok (c .before .before .before)) (c .walk .ensures ∙ ap (walkRoot _) (c .before .root-offset .ensures))
+returns c =
+    let w = c .before .before .before .words-of in
+    led _ _ _ _ (ok (c .before .before .before .before .before))
+    (walk-back (c .before .before .before .before .before .before .before .before .args .map) (full (c .before .before .before .before .before .before .before .before)) (w .result) (w .ensures) _ _ _ (c .walk .ensures) (c .before .root-offset .ensures))
 
 returns-2 : tie.Need-returns-2
 returns-2 c = not-led _ _ _ _ (c .before .before .check-map .ensures) (sym (c .before .accepts .ensures) ∙ c .if1 .left)
@@ -45,6 +61,8 @@ resolve-address-spec =
     check-map-requires
     accepts-requires
     sub-root
+    words-of-requires
+    slice-aggregate-walk
     root-offset-requires
     walk-requires
     returns

@@ -7,7 +7,7 @@ use lib.ListN.{length, drop, replicate, length-set, length-map, length-replicate
 use lib.Seq.{sets}
 use Rattle.region_map.specs.ViewRules.{rangeOf}
 use Rattle.virtqueue.specs.Words.{rangesWords, viewWords}
-use Rattle.virtqueue.proofs.StoreLaws.{stored}
+use Rattle.region_map.proofs.StoreLaws.{stored}
 use Rattle.virtqueue.proofs.WordLaws.{write-start, write-turn, write-end}
 use Rattle.virtqueue.proofs.view.words_of.Statement.{statement}
 use Rattle.virtqueue.proofs.view.words_of.Tie as tie

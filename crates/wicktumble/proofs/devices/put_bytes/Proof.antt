@@ -6,7 +6,7 @@ use lib.ListN.{length, getD, length-set}
 use lib.Seq.{paste, paste-zero}
 use borrow.Author.Needs.{needs}
 use Rattle.wicktumble.proofs.DeviceWords.{copy-first, copy-end}
-use Rattle.virtqueue.proofs.StoreLaws.{over}
+use Rattle.region_map.proofs.StoreLaws.{over}
 use Rattle.wicktumble.proofs.devices.put_bytes.Statement.{statement}
 use Rattle.wicktumble.proofs.devices.put_bytes.Tie as tie
 

@@ -5,7 +5,7 @@ use native.Mathlib.Omega.{arith}
 use lib.ListN.{length, drop, length-set, length-map}
 use lib.Seq.{sets, length-sets}
 use Rattle.region_map.specs.Map.{noRegion}
-use Rattle.wicktumble.specs.Words.{regionsWords, mapWords}
+use Rattle.region_map.specs.Words.{regionsWords, mapWords}
 use Rattle.wicktumble.proofs.WordLaws.{write-start, write-turn, write-end, regions-written}
 use borrow.Author.Needs.{needs}
 use Rattle.wicktumble.proofs.words.put_map.Statement.{statement}

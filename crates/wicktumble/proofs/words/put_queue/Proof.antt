@@ -3,7 +3,7 @@ use native.Mathlib.Omega.{arith}
 use lib.ListN.{length-set}
 use borrow.Author.Needs.{needs}
 use Rattle.wicktumble.specs.Words.{queueWords}
-use Rattle.virtqueue.proofs.StoreLaws.{over}
+use Rattle.region_map.proofs.StoreLaws.{over}
 use Rattle.wicktumble.proofs.words.put_queue.Statement.{statement}
 use Rattle.wicktumble.proofs.words.put_queue.Tie as tie
 

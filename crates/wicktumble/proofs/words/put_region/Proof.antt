@@ -2,7 +2,7 @@
 use mathlib.Core.List.{[], _∷_}
 use native.Mathlib.Omega.{arith}
 use lib.ListN.{length-set}
-use Rattle.virtqueue.proofs.StoreLaws.{stored}
+use Rattle.region_map.proofs.StoreLaws.{stored}
 use borrow.Author.Needs.{needs}
 use Rattle.wicktumble.proofs.words.put_region.Statement.{statement}
 use Rattle.wicktumble.proofs.words.put_region.Tie as tie

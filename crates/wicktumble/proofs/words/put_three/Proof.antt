@@ -1,7 +1,7 @@
 -- `wicktumble::words::put_three` meets its contract. Assumes nothing.
 use borrow.Author.Needs.{needs}
 use Rattle.wicktumble.specs.Words.{three}
-use Rattle.virtqueue.proofs.StoreLaws.{over}
+use Rattle.region_map.proofs.StoreLaws.{over}
 use Rattle.wicktumble.proofs.words.put_three.Statement.{statement}
 use Rattle.wicktumble.proofs.words.put_three.Tie as tie
 
