@@ -261,13 +261,18 @@ fn stage(count: u64, requests: &[(u16, u16)]) -> Stage {
     }
     let device =
         model::Device::fresh(BLOCK, DEVICE_ADDR, 512 * BLOCK, 512 * BLOCK, 256 * BLOCK).unwrap();
+    staged(&runs, device, start, memory, place as usize)
+}
+
+/// The queue's areas begin at the address `start`, which lies at `place` in the memory.
+fn staged(runs: &[Run], device: model::Device, start: u64, memory: Vec<u8>, place: usize) -> Stage {
     Stage {
-        view: model::view_words(&runs),
+        view: model::view_words(runs),
         ranges: runs.iter().map(Run::words).collect(),
         device: device.words(),
         queue: [256, start, start + 0x2000, start + 0x3000, 0, 0, 0],
         memory,
-        available: place as usize + 0x2000,
+        available: place + 0x2000,
     }
 }
 
@@ -482,14 +487,7 @@ fn long_stage(runs: Vec<Run>, length: u32, memory: Vec<u8>) -> Stage {
     let blocks = 1024 * BLOCK;
     let mut device = model::Device::fresh(BLOCK, 0, blocks, blocks, blocks).unwrap();
     device.plugged.fill(true);
-    Stage {
-        view: model::view_words(&runs),
-        ranges: runs.iter().map(Run::words).collect(),
-        device: device.words(),
-        queue: [256, start, start + 0x2000, start + 0x3000, 0, 0, 0],
-        memory,
-        available: place + 0x2000,
-    }
+    staged(&runs, device, start, memory, place)
 }
 
 fn time_long(s: &mut Stage) -> Vec<f64> {
