@@ -18,7 +18,7 @@ const MANAGED: u64 = 4;
 
 pub fn judge_view(view: &[u64], memory_length: u64, region: Option<u64>) -> Option<&[Range]> {
     let (&count, rest) = view.split_first()?;
-    if count > 256 {
+    if view.len() != 1537 || count > 256 {
         return None;
     }
     let ranges = rest.as_chunks::<6>().0.get(..count as usize)?;
@@ -165,6 +165,26 @@ pub fn route_judged(
         None => (27, [0; 3]),
         Some(ranges) => route(ranges, device, address, width),
     }
+}
+
+/// wt_route_all's work: judge once, then route each. An answer is the number and the result.
+pub fn route_all(
+    view: &[u64],
+    memory_length: u64,
+    device: Option<&Device>,
+    accesses: &[u64],
+    answers: &mut [u64],
+) -> u64 {
+    if device.is_some_and(|d| !judge_device(d)) || answers.len() != 2 * accesses.len() {
+        return 27;
+    }
+    let Some(ranges) = judge_view(view, memory_length, device.map(|d| d[2])) else { return 27 };
+    for (access, answer) in accesses.chunks_exact(2).zip(answers.chunks_exact_mut(4)) {
+        let (number, result) = route(ranges, device, access[0], access[1]);
+        answer[0] = number;
+        answer[1..4].copy_from_slice(&result);
+    }
+    0
 }
 
 // ------------------------------------------------------------------------------------------- device
@@ -354,6 +374,15 @@ pub fn step(ranges: &[Range], d: &mut Device, q: &mut Queue, memory: &mut [u8]) 
     }
 }
 
+/// A call's number and its result.
+pub fn answer(outcome: Outcome) -> (u64, [u64; 3]) {
+    match outcome {
+        Outcome::Stopped(number) => (number, [0; 3]),
+        Outcome::Idle => (0, [0; 3]),
+        Outcome::Served(notify) => (0, [1, notify.into(), 0]),
+    }
+}
+
 fn try_step(
     ranges: &[Range],
     d: &mut Device,
@@ -462,11 +491,7 @@ pub fn step_judged(
     }
     match judge_view(view, memory.len() as u64, Some(d[2])) {
         None => (27, [0; 3]),
-        Some(ranges) => match step(ranges, d, q, memory) {
-            Outcome::Stopped(number) => (number, [0; 3]),
-            Outcome::Idle => (0, [0; 3]),
-            Outcome::Served(notify) => (0, [1, notify.into(), 0]),
-        },
+        Some(ranges) => answer(step(ranges, d, q, memory)),
     }
 }
 

@@ -59,6 +59,16 @@ uint64_t wt_unpin(uint64_t *device, size_t device_words, uint64_t block);
 uint64_t wt_system_reset(uint64_t *device, size_t device_words);
 uint64_t wt_configuration(const uint64_t *device, size_t device_words, uint8_t *bytes, size_t bytes_len);
 
+/* Carries out one request of the guest, of 24 bytes, without a queue. response: ten bytes. Refuses with 27; then no
+ * byte of the response is written. */
+uint64_t wt_request(uint64_t *device, size_t device_words, const uint8_t *request, size_t request_len,
+                    uint8_t *response, size_t response_len);
+
+/* The block in which a byte of the device's region lies, by its offset in the region. result: 1, the block and 0,
+ * or zeros where the byte lies outside the region. Refuses with 27. */
+uint64_t wt_block_of_byte(const uint64_t *device, size_t device_words, uint64_t offset,
+                          uint64_t *result, size_t result_words);
+
 /* Routes one access. No device: device_words 0. result: 1 and the memory place, or 2, the port and the
  * offset in its region. Refuses with 23 to 26, 27. */
 uint64_t wt_route(const uint64_t *view, size_t view_words, uint64_t memory_length,
@@ -72,6 +82,11 @@ uint64_t wt_route(const uint64_t *view, size_t view_words, uint64_t memory_lengt
 uint64_t wt_route_all(const uint64_t *view, size_t view_words, uint64_t memory_length,
                       const uint64_t *device, size_t device_words, const uint64_t *accesses,
                       size_t access_words, uint64_t *answers, size_t answer_words);
+
+/* What a view gives an address. result: 1, the region and the offset in it, or zeros for nothing. Refuses with 27,
+ * which judges no device's region here. */
+uint64_t wt_look_up(const uint64_t *view, size_t view_words, uint64_t memory_length, uint64_t address,
+                    uint64_t *result, size_t result_words);
 
 /* Makes a queue of a size and three areas, with its indices at 0. Refuses with 16, 27. */
 uint64_t wt_make_queue(uint64_t size, uint64_t descriptors, uint64_t available, uint64_t used,

@@ -9,112 +9,15 @@
 //! A case is one generated input; most make several calls. Each call is made on the library and on the
 //! model from the same state; number, result words, every record and all of memory must agree, with
 //! guard words behind every buffer. On a difference: kind, seed, input, exit 1.
+#[path = "../library.rs"]
+#[rustfmt::skip]
+mod ffi;
 #[path = "model.rs"]
 mod model;
 
 use model::*;
 use std::fmt::Write as _;
 use std::time::Instant;
-
-// ------------------------------------------------------------------------------ the library's calls
-
-/// The header's functions, on slices.
-mod ffi {
-    mod raw {
-        #[rustfmt::skip]
-        extern "C" {
-            pub fn wt_read_sheet(sheet: *const u8, sheet_len: usize, memory_length: u64, map: *mut u64, map_words: usize, result: *mut u64, result_words: usize) -> u64;
-            pub fn wt_check_map(map: *const u64, map_words: usize, memory_length: u64, result: *mut u64, result_words: usize) -> u64;
-            pub fn wt_walk(map: *const u64, map_words: usize, memory_length: u64, address: u64, result: *mut u64, result_words: usize) -> u64;
-            pub fn wt_flatten(map: *const u64, map_words: usize, memory_length: u64, view: *mut u64, view_words: usize, result: *mut u64, result_words: usize) -> u64;
-            pub fn wt_set_up(map: *const u64, map_words: usize, memory_length: u64, block_size: u64, addr: u64, usable_size: u64, requested_size: u64, device: *mut u64, device_words: usize, result: *mut u64, result_words: usize) -> u64;
-            pub fn wt_set_requested_size(device: *mut u64, device_words: usize, size: u64) -> u64;
-            pub fn wt_pin(device: *mut u64, device_words: usize, block: u64) -> u64;
-            pub fn wt_unpin(device: *mut u64, device_words: usize, block: u64) -> u64;
-            pub fn wt_system_reset(device: *mut u64, device_words: usize) -> u64;
-            pub fn wt_configuration(device: *const u64, device_words: usize, bytes: *mut u8, bytes_len: usize) -> u64;
-            pub fn wt_route_all(view: *const u64, view_words: usize, memory_length: u64, device: *const u64, device_words: usize, accesses: *const u64, access_words: usize, answers: *mut u64, answer_words: usize) -> u64;
-            pub fn wt_route(view: *const u64, view_words: usize, memory_length: u64, device: *const u64, device_words: usize, address: u64, width: u64, result: *mut u64, result_words: usize) -> u64;
-            pub fn wt_make_queue(size: u64, descriptors: u64, available: u64, used: u64, queue: *mut u64, queue_words: usize) -> u64;
-            pub fn wt_reset_queue(queue: *mut u64, queue_words: usize) -> u64;
-            pub fn wt_step(view: *const u64, view_words: usize, device: *mut u64, device_words: usize, queue: *mut u64, queue_words: usize, memory: *mut u8, memory_len: usize, result: *mut u64, result_words: usize) -> u64;
-            pub fn wt_run(view: *const u64, view_words: usize, device: *mut u64, device_words: usize, queue: *mut u64, queue_words: usize, memory: *mut u8, memory_len: usize, k: u64, result: *mut u64, result_words: usize) -> u64;
-        }
-    }
-
-    pub fn read_sheet(s: &[u8], length: u64, m: &mut [u64], r: &mut [u64]) -> u64 {
-        unsafe {
-            let (m, ml) = (m.as_mut_ptr(), m.len());
-            raw::wt_read_sheet(s.as_ptr(), s.len(), length, m, ml, r.as_mut_ptr(), r.len())
-        }
-    }
-    pub fn check_map(m: &[u64], length: u64, r: &mut [u64]) -> u64 {
-        unsafe { raw::wt_check_map(m.as_ptr(), m.len(), length, r.as_mut_ptr(), r.len()) }
-    }
-    pub fn walk(m: &[u64], length: u64, address: u64, r: &mut [u64]) -> u64 {
-        unsafe { raw::wt_walk(m.as_ptr(), m.len(), length, address, r.as_mut_ptr(), r.len()) }
-    }
-    pub fn flatten(m: &[u64], length: u64, v: &mut [u64], r: &mut [u64]) -> u64 {
-        unsafe {
-            let (v, vl) = (v.as_mut_ptr(), v.len());
-            raw::wt_flatten(m.as_ptr(), m.len(), length, v, vl, r.as_mut_ptr(), r.len())
-        }
-    }
-    #[allow(clippy::too_many_arguments)]
-    #[rustfmt::skip]
-    pub fn set_up(m: &[u64], length: u64, block: u64, addr: u64, usable: u64, requested: u64, d: &mut [u64], r: &mut [u64]) -> u64 {
-        unsafe {
-            let (d, dl) = (d.as_mut_ptr(), d.len());
-            raw::wt_set_up(m.as_ptr(), m.len(), length, block, addr, usable, requested, d, dl, r.as_mut_ptr(), r.len())
-        }
-    }
-    pub fn set_requested_size(d: &mut [u64], size: u64) -> u64 {
-        unsafe { raw::wt_set_requested_size(d.as_mut_ptr(), d.len(), size) }
-    }
-    pub fn pin(d: &mut [u64], block: u64) -> u64 {
-        unsafe { raw::wt_pin(d.as_mut_ptr(), d.len(), block) }
-    }
-    pub fn unpin(d: &mut [u64], block: u64) -> u64 {
-        unsafe { raw::wt_unpin(d.as_mut_ptr(), d.len(), block) }
-    }
-    pub fn system_reset(d: &mut [u64]) -> u64 {
-        unsafe { raw::wt_system_reset(d.as_mut_ptr(), d.len()) }
-    }
-    pub fn configuration(d: &[u64], bytes: &mut [u8]) -> u64 {
-        unsafe { raw::wt_configuration(d.as_ptr(), d.len(), bytes.as_mut_ptr(), bytes.len()) }
-    }
-    #[rustfmt::skip]
-    pub fn route(v: &[u64], length: u64, d: &[u64], address: u64, width: u64, r: &mut [u64]) -> u64 {
-        unsafe {
-            raw::wt_route(v.as_ptr(), v.len(), length, d.as_ptr(), d.len(), address, width, r.as_mut_ptr(), r.len())
-        }
-    }
-    #[rustfmt::skip]
-    pub fn route_all(v: &[u64], length: u64, d: &[u64], accesses: &[u64], answers: &mut [u64]) -> u64 {
-        unsafe {
-            raw::wt_route_all(v.as_ptr(), v.len(), length, d.as_ptr(), d.len(), accesses.as_ptr(), accesses.len(), answers.as_mut_ptr(), answers.len())
-        }
-    }
-    #[rustfmt::skip]
-    pub fn make_queue(size: u64, desc: u64, available: u64, used: u64, q: &mut [u64]) -> u64 {
-        unsafe { raw::wt_make_queue(size, desc, available, used, q.as_mut_ptr(), q.len()) }
-    }
-    pub fn reset_queue(q: &mut [u64]) -> u64 {
-        unsafe { raw::wt_reset_queue(q.as_mut_ptr(), q.len()) }
-    }
-    #[rustfmt::skip]
-    pub fn step(v: &[u64], d: &mut [u64], q: &mut [u64], m: &mut [u8], r: &mut [u64]) -> u64 {
-        unsafe {
-            raw::wt_step(v.as_ptr(), v.len(), d.as_mut_ptr(), d.len(), q.as_mut_ptr(), q.len(), m.as_mut_ptr(), m.len(), r.as_mut_ptr(), r.len())
-        }
-    }
-    #[rustfmt::skip]
-    pub fn run(v: &[u64], d: &mut [u64], q: &mut [u64], m: &mut [u8], k: u64, r: &mut [u64]) -> u64 {
-        unsafe {
-            raw::wt_run(v.as_ptr(), v.len(), d.as_mut_ptr(), d.len(), q.as_mut_ptr(), q.len(), m.as_mut_ptr(), m.len(), k, r.as_mut_ptr(), r.len())
-        }
-    }
-}
 
 // ------------------------------------------------------------------------------------------- chance
 
@@ -309,6 +212,13 @@ impl State {
         let (left, right) = self.words.split_at_mut(b);
         let (a, b) = (&left[a], &mut right[0]);
         (&a.1[..a.2], &mut b.1[..b.2])
+    }
+    /// A call on the first words, written, with the first bytes, read, and the second, written.
+    fn device_and_bytes(&mut self, call: fn(&mut [u64], &[u8], &mut [u8]) -> u64) -> u64 {
+        let words = &mut self.words[0];
+        let (from, to) = self.bytes.split_at_mut(1);
+        let (from, to) = (&from[0], &mut to[0]);
+        call(&mut words.1[..words.2], &from.1[..from.2], &mut to.1[..to.2])
     }
     fn n(&self, i: usize) -> u64 {
         self.numbers[i].1
@@ -1247,6 +1157,99 @@ fn host_case(r: &mut Rng, tally: &mut Tally) -> Result<(), String> {
     Ok(())
 }
 
+// ----------------------------------------------------------------- kind: requests, and the block of a byte
+
+/// A request, of this block or another: in the rules, at their edges, and wild.
+fn random_request(r: &mut Rng, d: &Device, near: Option<u64>) -> [u8; 24] {
+    let blocks = d.region / d.block_size;
+    let mut request = [0u8; 24];
+    for byte in &mut request {
+        *byte = r.next() as u8;
+    }
+    let kind: u16 = match r.below(12) {
+        0..=3 => 0,
+        4..=6 => 1,
+        7 => 2,
+        8..=10 => 3,
+        _ => r.pick(&[4, 5, 256, 257, 258, 259, 65535]),
+    };
+    let mut block = near.unwrap_or_else(|| r.below(blocks + 2));
+    if r.one_in(8) {
+        block = (d.usable / d.block_size).saturating_sub(r.below(2));
+    }
+    let addr = match r.below(14) {
+        0 => edge(r),
+        1 => d.addr.wrapping_sub(d.block_size),
+        2 => (d.addr + d.block_size * block).wrapping_add(r.pick(&[1, 2048, d.block_size / 2])),
+        3 => 0u64.wrapping_sub(d.block_size),
+        _ => d.addr.wrapping_add(d.block_size * block),
+    };
+    let count: u16 = match r.below(10) {
+        0 => r.pick(&[0, 255, 256, 257, 1024, 65535, 32768]),
+        1 => blocks.saturating_sub(block) as u16,
+        2 => (blocks.saturating_sub(block) + 1) as u16,
+        3 => ((d.usable / d.block_size).saturating_sub(block)) as u16,
+        4 => r.below(6) as u16,
+        _ => 1 + r.below(2) as u16,
+    };
+    request[0..2].copy_from_slice(&kind.to_le_bytes());
+    request[8..16].copy_from_slice(&addr.to_le_bytes());
+    request[16..18].copy_from_slice(&count.to_le_bytes());
+    request
+}
+
+/// Requests one after the other on one record, and bytes of its region.
+fn request_case(r: &mut Rng, tally: &mut Tally) -> Result<(), String> {
+    let d = random_device(r);
+    let mut words = d.words().to_vec();
+    if r.one_in(5) {
+        damage_device(r, &mut words);
+    }
+    let mut state = State {
+        words: vec![
+            ("device", guarded(r, &words), length(r, DEVICE)),
+            ("result", garbage(r, RESULT), length(r, RESULT)),
+        ],
+        bytes: vec![
+            ("request", r.bytes(32), length(r, REQUEST)),
+            ("response", r.bytes(16), length(r, RESPONSE)),
+        ],
+        numbers: vec![("offset", 0)],
+    };
+    for _ in 0..6 {
+        state.bytes[0].1[..REQUEST].copy_from_slice(&random_request(r, &d, None));
+        both(
+            tally,
+            "wt_request",
+            &mut state,
+            |s| s.device_and_bytes(ffi::request),
+            |s| s.device_and_bytes(calls::request),
+        )?;
+        state.numbers[0].1 = match r.below(6) {
+            0 => edge(r),
+            1 => shake(r, d.region),
+            2 => (d.block_size * r.below(d.region / d.block_size + 1)).wrapping_sub(r.below(2)),
+            _ => r.below(d.region),
+        };
+        both(
+            tally,
+            "wt_block_of_byte",
+            &mut state,
+            |s| {
+                let n = s.n(0);
+                let (device, result) = s.w2(0, 1);
+                ffi::block_of_byte(device, n, result)
+            },
+            |s| {
+                let n = s.n(0);
+                let (device, result) = s.w2(0, 1);
+                calls::block_of_byte(device, n, result)
+            },
+        )?;
+    }
+    Ok(())
+}
+
 // --------------------------------------------------------------------------------------- random views
 
 /// A view that keeps its rules for this memory length and region, not from a map: ranges of one memory
@@ -1541,6 +1544,33 @@ fn route_all_case(r: &mut Rng, tally: &mut Tally) -> Result<(), String> {
         },
     )
     .map(|_| ())
+}
+
+// ---------------------------------------------------------------------------------------- kind: look-up
+
+fn look_up_case(r: &mut Rng, tally: &mut Tally) -> Result<(), String> {
+    let (mut state, runs, _) = routing_state(r);
+    state.words[1] = ("result", garbage(r, RESULT), length(r, RESULT));
+    state.numbers.push(("address", 0));
+    for _ in 0..4 {
+        state.numbers[1].1 = telling_address(r, &runs);
+        both(
+            tally,
+            "wt_look_up",
+            &mut state,
+            |s| {
+                let (n, a) = (s.n(0), s.n(1));
+                let (view, result) = s.w2(0, 1);
+                ffi::look_up(view, n, a, result)
+            },
+            |s| {
+                let (n, a) = (s.n(0), s.n(1));
+                let (view, result) = s.w2(0, 1);
+                calls::look_up(view, n, a, result)
+            },
+        )?;
+    }
+    Ok(())
 }
 
 // --------------------------------------------------------------------------- kind: queue make and reset
@@ -1928,49 +1958,13 @@ fn random_guest(r: &mut Rng, noise: &[u8], wide: bool) -> Guest {
     Guest { runs, device, memory, reachable, calm: r.one_in(2), taken }
 }
 
-fn random_request(r: &mut Rng, guest: &Guest, response: u64, used: u64) -> [u8; 24] {
-    let d = &guest.device;
-    let blocks = d.region / d.block_size;
-    let mut request = [0u8; 24];
-    for byte in &mut request {
-        *byte = r.next() as u8;
-    }
-    let kind: u16 = match r.below(12) {
-        0..=3 => 0,
-        4..=6 => 1,
-        7 => 2,
-        8..=10 => 3,
-        _ => r.pick(&[4, 5, 256, 257, 258, 259, 65535]),
-    };
-    // Often the block that the response or the used ring lies in.
-    let mut block = match r.below(3) {
+/// Often the block that the response or the used ring lies in.
+fn near_block(r: &mut Rng, guest: &Guest, response: u64, used: u64) -> Option<u64> {
+    match r.below(3) {
         0 => guest.block_at(response).or(guest.block_at(used)),
         1 => guest.block_at(used),
         _ => None,
     }
-    .unwrap_or_else(|| r.below(blocks + 2));
-    if r.one_in(8) {
-        block = (d.usable / d.block_size).saturating_sub(r.below(2));
-    }
-    let addr = match r.below(14) {
-        0 => edge(r),
-        1 => d.addr.wrapping_sub(d.block_size),
-        2 => (d.addr + d.block_size * block).wrapping_add(r.pick(&[1, 2048, d.block_size / 2])),
-        3 => 0u64.wrapping_sub(d.block_size),
-        _ => d.addr.wrapping_add(d.block_size * block),
-    };
-    let count: u16 = match r.below(10) {
-        0 => r.pick(&[0, 255, 256, 257, 1024, 65535, 32768]),
-        1 => blocks.saturating_sub(block) as u16,
-        2 => (blocks.saturating_sub(block) + 1) as u16,
-        3 => ((d.usable / d.block_size).saturating_sub(block)) as u16,
-        4 => r.below(6) as u16,
-        _ => 1 + r.below(2) as u16,
-    };
-    request[0..2].copy_from_slice(&kind.to_le_bytes());
-    request[8..16].copy_from_slice(&addr.to_le_bytes());
-    request[16..18].copy_from_slice(&count.to_le_bytes());
-    request
 }
 
 /// Splits a total into a few parts, sometimes with empty ones.
@@ -2156,7 +2150,8 @@ fn random_scene(r: &mut Rng, noise: &[u8], many: bool) -> Scene {
         let numbers: Vec<u64> = free.drain(..elements.len()).collect();
         // The request, byte by byte over the readable elements.
         let response = elements.iter().find(|e| e.2 & 2 != 0).map_or(0, |e| e.0);
-        let mut bytes = random_request(r, &guest, response, used);
+        let near = near_block(r, &guest, response, used);
+        let mut bytes = random_request(r, &guest.device, near);
         if full && bytes[0] != 0 {
             bytes[0] = 3; // nothing that takes blocks away
         }
@@ -2461,7 +2456,9 @@ const KINDS: &[&str] = &[
     "walk",
     "flatten",
     "set-up",
+    "request",
     "route",
+    "look-up",
     "queue",
     "step",
     "run",
@@ -2476,10 +2473,12 @@ fn one(kind: usize, seed: u64, tally: &mut Tally, noise: &[u8]) -> Result<(), St
         2 => walk_case(r, tally),
         3 => flatten_case(r, tally),
         4 => host_case(r, tally),
-        5 => route_case(r, tally).and_then(|()| route_all_case(r, tally)),
-        6 => queue_case(r, tally),
-        7 => step_case(r, tally, noise),
-        8 => run_case(r, tally, noise),
+        5 => request_case(r, tally),
+        6 => route_case(r, tally).and_then(|()| route_all_case(r, tally)),
+        7 => look_up_case(r, tally),
+        8 => queue_case(r, tally),
+        9 => step_case(r, tally, noise),
+        10 => run_case(r, tally, noise),
         _ => self_case(r, noise),
     }
 }

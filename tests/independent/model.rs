@@ -13,6 +13,8 @@ pub const DEVICE: usize = 37;
 pub const QUEUE: usize = 7;
 pub const RESULT: usize = 3;
 pub const CONFIGURATION: usize = 56;
+pub const REQUEST: usize = 24;
+pub const RESPONSE: usize = 10;
 
 pub const MOST_NODES: u64 = 32;
 pub const MOST_RUNS: u64 = 256;
@@ -579,8 +581,13 @@ impl Device {
         (offset / self.block_size) as usize
     }
 
+    /// "Block of a byte = its offset in the managed node divided by the block size"; None outside the node.
+    pub fn block_of_byte(&self, offset: u64) -> Option<u64> {
+        (offset < self.region).then(|| offset / self.block_size)
+    }
+
     /// Carries out a request of 24 bytes; the response has 10.
-    pub fn request(&mut self, request: &[u8; 24]) -> [u8; 10] {
+    pub fn request(&mut self, request: &[u8; REQUEST]) -> [u8; RESPONSE] {
         let kind = u16::from_le_bytes([request[0], request[1]]);
         let addr = u64::from_le_bytes(request[8..16].try_into().unwrap());
         let blocks = u16::from_le_bytes([request[16], request[17]]);
@@ -1180,6 +1187,48 @@ pub mod calls {
                 0
             }
         }
+    }
+
+    pub fn request(device: &mut [u64], request: &[u8], response: &mut [u8]) -> u64 {
+        let Ok(request) = <&[u8; REQUEST]>::try_from(request) else { return 27 };
+        if response.len() != RESPONSE {
+            return 27;
+        }
+        on_device(device, |d| {
+            response.copy_from_slice(&d.request(request));
+            Ok(())
+        })
+    }
+
+    pub fn block_of_byte(device: &[u64], offset: u64, result: &mut [u64]) -> u64 {
+        if device.len() != DEVICE || result.len() != RESULT {
+            return 27;
+        }
+        let Some(d) = Device::of_words(device) else {
+            say(result, [0; 3]);
+            return 27;
+        };
+        match d.block_of_byte(offset) {
+            Some(block) => say(result, [1, block, 0]),
+            None => say(result, [0; 3]),
+        }
+        0
+    }
+
+    /// Given no device, so that 27 judges no region.
+    pub fn look_up(view: &[u64], memory_length: u64, address: u64, result: &mut [u64]) -> u64 {
+        if view.len() != VIEW || result.len() != RESULT {
+            return 27;
+        }
+        let Some(runs) = check_view(view, memory_length, None) else {
+            say(result, [0; 3]);
+            return 27;
+        };
+        match find(&runs, address) {
+            Some(run) => say(result, [1, run.node, run.offset_at(address)]),
+            None => say(result, [0; 3]),
+        }
+        0
     }
 
     /// The judged view and device of a routing call, or None (27).

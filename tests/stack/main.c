@@ -39,6 +39,13 @@ static void deep(void) { /* 31 containers inside one another and a RAM region in
 }
 static void *pin(void *x) { wt_pin(device, WT_DEVICE, 0); return x; }
 static void *configuration(void *x) { wt_configuration(device, WT_DEVICE, bytes, 56); return x; }
+static void *request(void *x) {
+    static const uint8_t plug[24] = {[9] = 0x80, [16] = 1};
+    wt_request(device, WT_DEVICE, plug, 24, bytes, 10);
+    return x;
+}
+static void *block_of_byte(void *x) { wt_block_of_byte(device, WT_DEVICE, 0x1000, result, 3); return x; }
+static void *look_up(void *x) { wt_look_up(view, WT_VIEW, sizeof memory, 0x100, result, 3); return x; }
 static void *route(void *x) {
     wt_route(view, WT_VIEW, sizeof memory, device, WT_DEVICE, 0x100, 4, result, 3);
     return x;
@@ -85,8 +92,9 @@ int main(void) {
     size_t base = depth(nothing);
     struct { const char *name; void *(*call)(void *); } calls[] = {
         {"wt_read_sheet", read_sheet}, {"wt_check_map", check_map}, {"wt_walk", walk}, {"wt_flatten", flatten},
-        {"wt_set_up", set_up}, {"wt_pin", pin}, {"wt_configuration", configuration}, {"wt_route", route},
-        {"wt_route_all", route_all},
+        {"wt_set_up", set_up}, {"wt_pin", pin}, {"wt_configuration", configuration},
+        {"wt_request", request}, {"wt_block_of_byte", block_of_byte},
+        {"wt_route", route}, {"wt_route_all", route_all}, {"wt_look_up", look_up},
         {"wt_make_queue", make_queue}, {"wt_step", step}, {"wt_run", run}};
     for (size_t i = 0; i < sizeof calls / sizeof *calls; i++) {
         if (calls[i].call == step || calls[i].call == run) {

@@ -2,25 +2,15 @@
 // address line, a row for each region from the root down, and the flat view below; or `refused N`.
 use drawing::drawing::row_line;
 use libc::STDIN_FILENO;
-use libc::STDOUT_FILENO;
-use listing::listing::Line;
 use listing::listing::refusal_line;
-use region_map::map::RegionMap;
+use listing::print::print_line;
 use sheet::answer;
 use sheet::reading::read_sheet;
 
 const MEMORY: u64 = 65536;
 
-fn print_line(line: Line) {
-    let n = line.length;
-    let text = line.text;
-    if n <= 80 {
-        io::write_all(STDOUT_FILENO, &text[..n]);
-    }
-}
-
 // A drawing has at most 35 rows. Past the last one a line is empty.
-fn print_drawing(map: RegionMap) {
+fn print_drawing(map: &[u64]) {
     for w in 0..35usize {
         print_line(row_line(map, MEMORY, w));
     }
@@ -31,13 +21,12 @@ fn print_drawing(map: RegionMap) {
 fn main() {
     let mut input = [0u8; 65537];
     let n = io::read_full(STDIN_FILENO, &mut input);
-    let reading = read_sheet(&input[..n], MEMORY);
-    let answer = reading.answer;
+    let mut map = [0u64; 289];
+    let answer = read_sheet(&input[..n], MEMORY, &mut map);
     let refused = answer::number_of(answer);
     if refused != 0 {
         print_line(refusal_line(refused));
         return;
     }
-    let map = reading.map;
-    print_drawing(map);
+    print_drawing(&map);
 }

@@ -10,7 +10,7 @@ use native.Mathlib.Omega.{arith}
 use lib.Dec.{eqb, ltb}
 use lib.ListN.{length, take, replicate, set, getD, length-set}
 use borrow.Author.Tests.{lt-ltb, le-ltb, eq-eqb, ne-eqb, eqb-true, eqb-false}
-use Rattle.region_map.specs.Map.{region}
+use Rattle.map_records.specs.Map.{region}
 use Rattle.region_map.specs.Fault.{parentOf}
 use Rattle.region_map.specs.Walk.{walkRoot}
 use Rattle.region_map.specs.Resolve.{refused, leads, resolved, ledBy}
@@ -20,15 +20,18 @@ use Rattle.region_map.specs.declared.check.MapAnswer.{MapAnswer}
 use Rattle.region_map.specs.declared.resolve.Resolved.{Resolved}
 use Rattle.region_map.specs.declared.resolve.Resolution.{Resolution}
 use Rattle.region_map.specs.declared.resolve.Resolution.the-variants.{Refused, Answered}
-use Rattle.region_map.specs.declared.map.RegionMap.{RegionMap}
+use Rattle.map_records.specs.declared.map.Region.{Region}
+use Rattle.map_records.specs.declared.map.RegionMap.{RegionMap}
+use Rattle.map_records.specs.Words.{mapOf}
 use Rattle.region_map.proofs.Accepted.{accepted-sound}
+use Rattle.region_map.proofs.MapWords.{accepted-words}
 use Rattle.region_map.proofs.Replies.{refused-first}
 use Rattle.listing.specs.Text.{lineOf, Holds, Blank}
 use Rattle.listing.specs.declared.listing.Line.{Line}
 use Rattle.listing.proofs.LineLaws.{line-put, blank-put, line-of}
 use Rattle.drawing.specs.Drawing.{rowAt, RowIn, columnAddress, regionCell, characters, rowText, drawnRow}
-use Rattle.drawing.specs.declared.row.Row.the-variants.{Addresses, Ruler, Region, FlatView}
-use Rattle.drawing.specs.Position.{entered, below, climb, located, Climbable}
+use Rattle.drawing.specs.declared.row.Row.the-variants as row
+use Rattle.drawing.specs.Position.{entered, below, climb, located, Climbable, Drawable}
 use Rattle.drawing.specs.declared.position.Position.the-variants.{Aside, Outside, Inside}
 
 eq-or-not : (a b : ℕ) → (a ≡ b) ⊎ (a ≡ b → ⊥)
@@ -39,7 +42,7 @@ eq-or-not a b = go (eqb a b) refl
     go false e = inr (eqb-false a b e)
 
 -- what acceptance gives
-pub accepted-climbable : (m : RegionMap) (length : ℕ) → Accepted m length → Climbable m
+accepted-climbable : (m : RegionMap) (length : ℕ) → Accepted m length → Climbable m
 accepted-climbable m length ok =
     let s = accepted-sound m length ok in
     let root : m .count - 1 < m .count = omega (arith, s .some) in
@@ -51,19 +54,22 @@ accepted-climbable m length ok =
       below = λ n h p. s .parents n h p .below;
     }
 
+pub accepted-drawable : (w : List ℕ) (memory : ℕ) → Accepted (mapOf w) memory → Drawable w
+accepted-drawable w memory ok = record { words = accepted-words w memory ok; climbable = accepted-climbable (mapOf w) memory ok }
+
 -- a region entered, and not
-module _ (m : RegionMap) (n first end from to : ℕ) (p : from ≡ first - region m n .offset) (q : to ≡ min (end - region m n .offset) (region m n .size)) where
-  pub entered-inside : from < to → Inside (record { 0 = from }) (record { 0 = to }) ≡ entered m n first end
+module _ (r : Region) (first end from to : ℕ) (p : from ≡ first - r .offset) (q : to ≡ min (end - r .offset) (r .size)) where
+  pub entered-inside : from < to → Inside (record { 0 = from }) (record { 0 = to }) ≡ entered r first end
   unfolding entered
   entered-inside h = rw (← p, ← q, lt-ltb from to h)
 
-  pub entered-not : to ≤ from → Outside ≡ entered m n first end
+  pub entered-not : to ≤ from → Outside ≡ entered r first end
   unfolding entered
   entered-not h = rw (← p, ← q, le-ltb from to h)
 
 -- one region asked
 module _ (m : RegionMap) (a b k n : ℕ) where
-  climb-root : region m n .parent ≡ 0 → n + 1 ≡ m .count → climb m (suc k) n a b ≡ entered m n a b
+  climb-root : region m n .parent ≡ 0 → n + 1 ≡ m .count → climb m (suc k) n a b ≡ entered (region m n) a b
   unfolding climb
   climb-root p q = rw (eq-eqb (region m n .parent) 0 p, eq-eqb (n + 1) (m .count) q)
 
@@ -71,7 +77,7 @@ module _ (m : RegionMap) (a b k n : ℕ) where
   unfolding climb
   climb-aside p q = rw (eq-eqb (region m n .parent) 0 p, ne-eqb (n + 1) (m .count) q)
 
-  climb-below : (region m n .parent ≡ 0 → ⊥) → climb m (suc k) n a b ≡ below m n (climb m k (parentOf (region m n)) a b)
+  climb-below : (region m n .parent ≡ 0 → ⊥) → climb m (suc k) n a b ≡ below (region m n) (climb m k (parentOf (region m n)) a b)
   unfolding climb
   climb-below p = rw (ne-eqb (region m n .parent) 0 p)
 
@@ -84,23 +90,26 @@ module _ (m : RegionMap) (a b : ℕ) (w : Climbable m) where
       ⊎-elim
       (λ e. ⊎-elim (λ r. climb-root m a b k n e r ∙ sym (climb-root m a b j n e r)) (λ r. climb-aside m a b k n e r ∙ sym (climb-aside m a b j n e r)) (eq-or-not (n + 1) (m .count)))
       (λ e. let up = w .above n h e in
-      climb-below m a b k n e ∙ ap (below m n) (enough k j (parentOf (region m n)) (w .below n h e) (omega arith) (omega arith)) ∙ sym (climb-below m a b j n e))
+      climb-below m a b k n e ∙ ap (below (region m n)) (enough k j (parentOf (region m n)) (w .below n h e) (omega arith) (omega arith)) ∙ sym (climb-below m a b j n e))
       (eq-or-not (region m n .parent) 0)
 
-  module _ (n : ℕ) where
-    pub located-root : region m n .parent ≡ 0 → n + 1 ≡ m .count → located m n a b ≡ entered m n a b
+  -- region n, read as r
+  module _ (n : ℕ) (r : Region) (e : r ≡ region m n) where
+    pub located-root : r .parent ≡ 0 → n + 1 ≡ m .count → located m n a b ≡ entered r a b
     unfolding located
-    located-root p q = climb-root m a b 31 n p q
+    located-root p q = rw e (climb-root m a b 31 n (rw e at p) q)
 
-    pub located-aside : region m n .parent ≡ 0 → (n + 1 ≡ m .count → ⊥) → located m n a b ≡ Aside
+    pub located-aside : r .parent ≡ 0 → (n + 1 ≡ m .count → ⊥) → located m n a b ≡ Aside
     unfolding located
-    located-aside p q = climb-aside m a b 31 n p q
+    located-aside p q = climb-aside m a b 31 n (rw e at p) q
 
-    pub located-below : n < m .count → (region m n .parent ≡ 0 → ⊥) → located m n a b ≡ below m n (located m (parentOf (region m n)) a b)
+    pub located-below : n < m .count → (r .parent ≡ 0 → ⊥) → located m n a b ≡ below r (located m (parentOf r) a b)
     unfolding located
-    located-below h p =
+    located-below h s =
+        let p = rw e at s in
         let up = w .above n h p in
-        climb-below m a b 31 n p ∙ ap (below m n) (enough 31 32 (parentOf (region m n)) (w .below n h p) (omega (arith, w .count)) (omega (arith, w .count)))
+        rw e
+        (climb-below m a b 31 n p ∙ ap (below (region m n)) (enough 31 32 (parentOf (region m n)) (w .below n h p) (omega (arith, w .count)) (omega (arith, w .count))))
 
 -- an element of a list is there whatever stands for one past its end
 pub getD-any : (l : List ℕ) (i d e : ℕ) → i < length l → getD l i d ≡ getD l i e
@@ -156,7 +165,7 @@ pub filled-whole : (f : ℕ → ℕ) (k : ℕ) (text : List ℕ) → k ≡ 79 �
 filled-whole f k text e w = let v = rw e at w in line-of (characters f 79) (record { length = 79; text = text }) (v .holds) (v .blank)
 
 -- a row that is drawn, one past the last, and that of a refused map
-pub row-drawn : (m : RegionMap) (length w : ℕ) (l : Line) → Accepted m length → w < m .count + 3 → l ≡ lineOf (rowText m (rowAt m w)) → l ≡ lineOf (drawnRow m length w)
+pub row-drawn : (m : RegionMap) (length w : ℕ) (l : Line) → Accepted m length → w < m .count + 3 → l ≡ lineOf (rowText m (rowAt (m .count) w)) → l ≡ lineOf (drawnRow m length w)
 unfolding drawnRow Accepted
 row-drawn m length w l ok h e = rw (ok, lt-ltb w (m .count + 3) h) e
 
@@ -174,10 +183,10 @@ ne-two (suc zero) p q = absurd (q refl)
 ne-two (suc (suc w)) p q = omega arith
 
 -- the region of a row is in the map
-pub row-in : (m : RegionMap) (w : ℕ) → 0 < m .count → RowIn m (rowAt m w)
+pub row-in : (m : RegionMap) (w : ℕ) → 0 < m .count → RowIn m (rowAt (m .count) w)
 row-in m w h = go (eqb w 0) (eqb w 1) (ltb w (m .count + 2)) refl refl
   where
-    go : (a b t : Bool) → eqb w 0 ≡ a → eqb w 1 ≡ b → RowIn m (cond a Addresses (cond b Ruler (cond t (Region (m .count + 1 - w)) FlatView)))
+    go : (a b t : Bool) → eqb w 0 ≡ a → eqb w 1 ≡ b → RowIn m (cond a row.Addresses (cond b row.Ruler (cond t (row.Region (m .count + 1 - w)) row.FlatView)))
     go true b t p q = tt
     go false true t p q = tt
     go false false true p q = let x = eqb-false w 0 p in let y = eqb-false w 1 q in omega (arith, ne-two w x y)

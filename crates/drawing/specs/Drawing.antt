@@ -5,12 +5,12 @@ use Prim.Native.Nat.{ℕ, zero, suc, _+_, _-_, _*_, _/_, _%_, _<_}
 use lib.Dec.{eqb, ltb}
 use lib.ListN.{getD}
 use Rattle.listing.specs.Text.{hexText}
-use Rattle.region_map.specs.Map.{container, ram, mmio, alias, region}
+use Rattle.map_records.specs.Map.{container, ram, mmio, alias, region}
 use Rattle.region_map.specs.Reply.{ifAccepted}
 use Rattle.region_map.specs.Check.{judged}
 use Rattle.region_map.specs.Walk.{walkRoot}
 use Rattle.region_map.specs.Flatten.{rootSize}
-use Rattle.region_map.specs.declared.map.RegionMap.{RegionMap}
+use Rattle.map_records.specs.declared.map.RegionMap.{RegionMap}
 use Rattle.region_map.specs.declared.resolve.Resolved.{Resolved}
 use Rattle.region_map.specs.declared.resolve.Resolved.the-variants.{Nothing, At}
 use Rattle.drawing.specs.Position.{located}
@@ -21,12 +21,12 @@ use Rattle.drawing.specs.declared.row.Row.the-variants.{Addresses, Ruler
 
 -- ---- the rows
 
--- row w from the top: the regions stand from the root down
-abbrev pub rowAt : RegionMap → ℕ → Row
-rowAt m w =
+-- row w from the top of the drawing of so many regions: they stand from the root down
+abbrev pub rowAt : ℕ → ℕ → Row
+rowAt count w =
     cond (eqb w 0) Addresses
     (cond (eqb w 1) Ruler
-    (cond (ltb w (m .count + 2)) (Region (m .count + 1 - w)) FlatView))
+    (cond (ltb w (count + 2)) (Region (count + 1 - w)) FlatView))
 
 -- a row's region is in the map
 abbrev pub RowIn : RegionMap → Row → Type 0
@@ -141,4 +141,4 @@ rowText m row = characters (character m row) 79
 
 -- row w of the drawing of a given map m over a memory of `length` bytes; a refused map has no drawing, and a drawing of n regions has n + 3 rows
 unfoldable pub drawnRow : RegionMap → ℕ → ℕ → List ℕ
-drawnRow m length w = ifAccepted (judged m length) (λ _. []) (cond (ltb w (m .count + 3)) (rowText m (rowAt m w)) [])
+drawnRow m length w = ifAccepted (judged m length) (λ _. []) (cond (ltb w (m .count + 3)) (rowText m (rowAt (m .count) w)) [])

@@ -1,19 +1,22 @@
 // The cells of the rows: what a row shows in a column.
 ghost use mathlib.Core.Path.{_≡_};
 ghost use Prim.Native.Nat.{_≤_, _<_, _^_};
+ghost use lib.ListN.{length};
+ghost use Rattle.map_records.specs.Words.{mapOf};
 ghost use Rattle.region_map.specs.Walk.{walkRoot};
 ghost use Rattle.region_map.specs.Check.{Accepted};
-ghost use Rattle.drawing.specs.Position.{located, Climbable};
+ghost use Rattle.drawing.specs.Position.{located, Drawable};
 ghost use Rattle.drawing.specs.Drawing.{columnAddress, addressCell, rulerCell, fill as fillOf, laterCell, regionCell, answerCell, cell as cellOf, RowIn};
 use crate::label::digit;
 use crate::label::letter;
 use crate::position::Position;
 use crate::position::locate;
 use crate::row::Row;
-use region_map::map::ALIAS;
-use region_map::map::CONTAINER;
-use region_map::map::GuestAddress;
-use region_map::map::RegionMap;
+use map_records::map::ALIAS;
+use map_records::map::CONTAINER;
+use map_records::map::GuestAddress;
+use map_records::words::region_at;
+use map_records::words::region_count;
 use region_map::resolve::Resolution;
 use region_map::resolve::Resolved;
 use region_map::resolve::resolve_address;
@@ -47,24 +50,24 @@ fn ruler_cell(c: usize) -> u8
 }
 
 // What a region's row is filled with.
-fn fill(map: RegionMap, n: usize) -> u8
-    requires { ⌜ n < 32 ⌝ }
-    ensures { λ r. ⌜ r ≡ fillOf map n ⌝ }
+fn fill(map: &[u64], n: usize) -> u8
+    requires { ⌜ (length (now map) ≡ 289) × (n < 32) ⌝ }
+    ensures { λ r. ⌜ r ≡ fillOf (mapOf (now (map .entry))) n ⌝ }
 {
-    let kind = map.regions[n].kind;
-    if kind == CONTAINER {
+    let region = region_at(map, n);
+    if region.kind == CONTAINER {
         return b'-';
     }
-    if kind == ALIAS {
+    if region.kind == ALIAS {
         return b'=';
     }
     digit(n)
 }
 
 // A column whose own address lies outside the region.
-fn later_cell(map: RegionMap, n: usize, first: GuestAddress, next: GuestAddress) -> u8
-    requires { ⌜ Climbable map × (n < map .count) ⌝ }
-    ensures { λ r. ⌜ r ≡ laterCell (located map n (first .0) (next .0)) ⌝ }
+fn later_cell(map: &[u64], n: usize, first: GuestAddress, next: GuestAddress) -> u8
+    requires { ⌜ Drawable (now map) × (n < mapOf (now map) .count) ⌝ }
+    ensures { λ r. ⌜ r ≡ laterCell (located (mapOf (now (map .entry))) n (first .0) (next .0)) ⌝ }
 {
     let later = locate(map, n, first, next);
     match later {
@@ -74,9 +77,9 @@ fn later_cell(map: RegionMap, n: usize, first: GuestAddress, next: GuestAddress)
     }
 }
 
-fn region_cell(map: RegionMap, n: usize, first: GuestAddress, next: GuestAddress, c: usize) -> u8
-    requires { ⌜ Climbable map × (n < map .count) × (first .0 ≤ 2 ^ 48) ⌝ }
-    ensures { λ r. ⌜ r ≡ regionCell map n (first .0) (next .0) c ⌝ }
+fn region_cell(map: &[u64], n: usize, first: GuestAddress, next: GuestAddress, c: usize) -> u8
+    requires { ⌜ Drawable (now map) × (n < mapOf (now map) .count) × (first .0 ≤ 2 ^ 48) ⌝ }
+    ensures { λ r. ⌜ r ≡ regionCell (mapOf (now (map .entry))) n (first .0) (next .0) c ⌝ }
 {
     let own = locate(map, n, first, GuestAddress(first.0 + 1));
     match own {
@@ -87,9 +90,9 @@ fn region_cell(map: RegionMap, n: usize, first: GuestAddress, next: GuestAddress
 }
 
 // The region that an address leads to.
-fn answer_cell(map: RegionMap, memory_length: u64, address: GuestAddress) -> u8
-    requires { ⌜ Accepted map «memory_length» ⌝ }
-    ensures { λ r. ⌜ r ≡ answerCell (walkRoot map (address .0)) ⌝ }
+fn answer_cell(map: &[u64], memory_length: u64, address: GuestAddress) -> u8
+    requires { ⌜ Accepted (mapOf (now map)) «memory_length» ⌝ }
+    ensures { λ r. ⌜ r ≡ answerCell (walkRoot (mapOf (now (map .entry))) (address .0)) ⌝ }
 {
     let resolution = resolve_address(map, memory_length, address);
     match resolution {
@@ -102,12 +105,13 @@ fn answer_cell(map: RegionMap, memory_length: u64, address: GuestAddress) -> u8
 }
 
 // Column c of a row.
-pub fn cell(map: RegionMap, memory_length: u64, row: Row, c: usize) -> u8
-    requires { ⌜ Climbable map × Accepted map «memory_length» × RowIn map row × (c < 64) ⌝ }
-    ensures { λ r. ⌜ r ≡ cellOf map row c ⌝ }
+pub fn cell(map: &[u64], memory_length: u64, row: Row, c: usize) -> u8
+    requires { ⌜ Drawable (now map) × Accepted (mapOf (now map)) «memory_length» × RowIn (mapOf (now map)) row × (c < 64) ⌝ }
+    ensures { λ r. ⌜ r ≡ cellOf (mapOf (now (map .entry))) row c ⌝ }
 {
-    let root = map.count - 1;
-    let size = map.regions[root].size;
+    let last = region_count(map) - 1;
+    let root = region_at(map, last);
+    let size = root.size;
     let address = column_address(size, c);
     let next = column_address(size, c + 1);
     match row {

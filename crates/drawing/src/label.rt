@@ -1,13 +1,16 @@
 // The labels of the rows.
 ghost use mathlib.Core.Path.{_≡_};
-ghost use Prim.Native.Nat.{_≤_, _<_};
+ghost use Prim.Native.Nat.{_<_};
+ghost use lib.ListN.{length};
+ghost use Rattle.map_records.specs.Words.{mapOf};
+ghost use Rattle.drawing.specs.Position.{Drawable};
 ghost use Rattle.drawing.specs.Drawing.{digitOf, letterOf, kindText, regionLabel, label as labelOf, RowIn};
 use crate::row::Row;
-use region_map::map::ALIAS;
-use region_map::map::CONTAINER;
-use region_map::map::MMIO;
-use region_map::map::RAM;
-use region_map::map::RegionMap;
+use map_records::map::ALIAS;
+use map_records::map::CONTAINER;
+use map_records::map::MMIO;
+use map_records::map::RAM;
+use map_records::words::region_at;
 
 // A region's number as one character.
 pub fn digit(n: usize) -> u8
@@ -52,9 +55,9 @@ fn kind_letter(kind: u64, i: usize) -> u8
 }
 
 // Character k of the label of region n: its number, then its kind.
-fn region_label(map: RegionMap, n: usize, k: usize) -> u8
-    requires { ⌜ n < 32 ⌝ }
-    ensures { λ r. ⌜ r ≡ regionLabel map n k ⌝ }
+fn region_label(map: &[u64], n: usize, k: usize) -> u8
+    requires { ⌜ (length (now map) ≡ 289) × (n < 32) ⌝ }
+    ensures { λ r. ⌜ r ≡ regionLabel (mapOf (now (map .entry))) n k ⌝ }
 {
     if k == 1 {
         return digit(n);
@@ -62,14 +65,14 @@ fn region_label(map: RegionMap, n: usize, k: usize) -> u8
     if k < 3 {
         return b' ';
     }
-    let kind = map.regions[n].kind;
-    kind_letter(kind, k - 3)
+    let region = region_at(map, n);
+    kind_letter(region.kind, k - 3)
 }
 
 // Character k of a row's label.
-pub fn label(map: RegionMap, row: Row, k: usize) -> u8
-    requires { ⌜ (map .count ≤ 32) × RowIn map row ⌝ }
-    ensures { λ r. ⌜ r ≡ labelOf map row k ⌝ }
+pub fn label(map: &[u64], row: Row, k: usize) -> u8
+    requires { ⌜ Drawable (now map) × RowIn (mapOf (now map)) row ⌝ }
+    ensures { λ r. ⌜ r ≡ labelOf (mapOf (now (map .entry))) row k ⌝ }
 {
     match row {
         Row::Addresses => letter(b" address", k),

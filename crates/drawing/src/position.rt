@@ -1,10 +1,13 @@
 // Where guest addresses lie to a region, by the offsets of the regions above it.
 ghost use mathlib.Core.Path.{_≡_};
 ghost use Prim.Native.Nat.{_-_, _<_, min};
-ghost use Rattle.drawing.specs.Position.{entered, located, Climbable};
-use region_map::map::GuestAddress;
-use region_map::map::RegionMap;
-use region_map::map::RegionOffset;
+ghost use Rattle.map_records.specs.Words.{mapOf};
+ghost use Rattle.drawing.specs.Position.{entered, located, Drawable};
+use map_records::map::GuestAddress;
+use map_records::map::Region;
+use map_records::map::RegionOffset;
+use map_records::words::region_at;
+use map_records::words::region_count;
 use region_map::resolve::root_offset;
 
 // Inside the region from an offset up to another; outside it or a region above it; or the region is
@@ -34,15 +37,12 @@ fn smaller(a: u64, b: u64) -> u64
     b
 }
 
-// Region n with the offsets of its parent from `first` up to `end`.
-fn enter(map: RegionMap, n: usize, first: RegionOffset, end: RegionOffset) -> Position
-    requires { ⌜ n < 32 ⌝ }
-    ensures { λ r. ⌜ r ≡ entered map n (first .0) (end .0) ⌝ }
+// A region with the offsets of its parent from `first` up to `end`.
+fn enter(region: Region, first: RegionOffset, end: RegionOffset) -> Position
+    ensures { λ r. ⌜ r ≡ entered region (first .0) (end .0) ⌝ }
 {
-    let offset = map.regions[n].offset;
-    let size = map.regions[n].size;
-    let from = past(first.0, offset);
-    let to = smaller(past(end.0, offset), size);
+    let from = past(first.0, region.offset);
+    let to = smaller(past(end.0, region.offset), region.size);
     if from < to {
         return Position::Inside(RegionOffset(from), RegionOffset(to));
     }
@@ -50,20 +50,22 @@ fn enter(map: RegionMap, n: usize, first: RegionOffset, end: RegionOffset) -> Po
 }
 
 // Guest addresses are offsets of the root, and each region above n is entered before n.
-pub fn locate(map: RegionMap, n: usize, first: GuestAddress, end: GuestAddress) -> Position
-    requires { ⌜ Climbable map × (n < map .count) ⌝ }
-    ensures { λ r. ⌜ r ≡ located map n (first .0) (end .0) ⌝ }
+pub fn locate(map: &[u64], n: usize, first: GuestAddress, end: GuestAddress) -> Position
+    requires { ⌜ Drawable (now map) × (n < mapOf (now map) .count) ⌝ }
+    ensures { λ r. ⌜ r ≡ located (mapOf (now (map .entry))) n (first .0) (end .0) ⌝ }
 {
-    let parent = map.regions[n].parent;
+    let region = region_at(map, n);
+    let parent = region.parent;
     if parent == 0 {
-        if n + 1 == map.count {
-            return enter(map, n, root_offset(first), root_offset(end));
+        let count = region_count(map);
+        if n + 1 == count {
+            return enter(region, root_offset(first), root_offset(end));
         }
         return Position::Aside;
     }
     let above = locate(map, parent - 1, first, end);
     match above {
-        Position::Inside(from, to) => enter(map, n, from, to),
+        Position::Inside(from, to) => enter(region, from, to),
         Position::Outside => Position::Outside,
         Position::Aside => Position::Aside,
     }

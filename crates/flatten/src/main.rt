@@ -1,32 +1,29 @@
 // Reads a sheet on standard input and prints the flat view of its map over a memory of 65,536 bytes:
 // a line for each range, or `refused N`.
+ghost use mathlib.Core.Path.{_≡_};
+ghost use lib.ListN.{length};
 use libc::STDIN_FILENO;
-use libc::STDOUT_FILENO;
-use listing::listing::Line;
 use listing::listing::range_line;
 use listing::listing::refusal_line;
+use listing::print::print_line;
+use map_records::words::count_of;
+use map_records::words::range_at;
 use region_map::view;
-use region_map::view::FlatView;
 use region_map::view::flatten;
 use sheet::answer;
 use sheet::reading::read_sheet;
 
 const MEMORY: u64 = 65536;
 
-fn print_line(line: Line) {
-    let n = line.length;
-    let text = line.text;
-    if n <= 80 {
-        io::write_all(STDOUT_FILENO, &text[..n]);
-    }
-}
-
-fn print_view(view: FlatView) {
+fn print_view(view: &[u64])
+    requires { ⌜ length (now view) ≡ 1537 ⌝ }
+{
+    let count = count_of(view);
     for k in 0..256usize {
-        if view.count <= k {
+        if count <= k {
             return;
         }
-        let range = view.ranges[k];
+        let range = range_at(view, k);
         print_line(range_line(range));
     }
 }
@@ -36,21 +33,19 @@ fn print_view(view: FlatView) {
 fn main() {
     let mut input = [0u8; 65537];
     let n = io::read_full(STDIN_FILENO, &mut input);
-    let reading = read_sheet(&input[..n], MEMORY);
-    let answer = reading.answer;
+    let mut map = [0u64; 289];
+    let answer = read_sheet(&input[..n], MEMORY, &mut map);
     let refused = answer::number_of(answer);
     if refused != 0 {
         print_line(refusal_line(refused));
         return;
     }
-    let map = reading.map;
-    let made = flatten(map, MEMORY);
-    let outcome = made.answer;
+    let mut flat = [0u64; 1537];
+    let outcome = flatten(&map, MEMORY, &mut flat);
     let refused = view::number_of(outcome);
     if refused != 0 {
         print_line(refusal_line(refused));
         return;
     }
-    let flat = made.view;
-    print_view(flat);
+    print_view(&flat);
 }

@@ -6,7 +6,7 @@ use Prim.Native.Nat.{ℕ, zero, suc, _-_, _/_, _≤_}
 use lib.Dec.{ltb}
 use lib.ListN.{length, take, drop, replicate}
 use Rattle.io.specs.Digits.{digits}
-use Rattle.region_map.specs.declared.view.FlatRange.{FlatRange}
+use Rattle.map_records.specs.declared.view.FlatRange.{FlatRange}
 use Rattle.listing.specs.declared.listing.Line.{Line}
 
 -- how many digits n has in base b, up to k + 1

@@ -1,3 +1,4 @@
-// The lines that the program `flatten` prints.
+// The lines that the programs print.
 mod line;
 pub mod listing;
+pub mod print;

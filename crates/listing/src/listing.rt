@@ -6,7 +6,7 @@ use crate::line::put;
 use crate::line::put_all;
 use crate::line::put_decimal;
 use crate::line::put_hex;
-use region_map::view::FlatRange;
+use map_records::view::FlatRange;
 
 // A line of at most 80 bytes: the first `length` of them are the text, and the others are zero.
 pub struct Line {

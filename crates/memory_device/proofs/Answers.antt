@@ -8,7 +8,7 @@ use Rattle.region_map.specs.Check.{reply}
 use Rattle.region_map.specs.declared.check.MapAnswer.{MapAnswer}
 use Rattle.region_map.specs.declared.check.MapAnswer.the-variants as map
 use Rattle.region_map.proofs.Answers.{answerOf, reply-back}
-use Rattle.memory_device.specs.Device.{hostReply}
+use Rattle.memory_device.specs.Record.{hostReply}
 use Rattle.memory_device.specs.SetUp.{setUpReply}
 use Rattle.memory_device.specs.declared.device.HostAnswer.{HostAnswer}
 use Rattle.memory_device.specs.declared.device.HostAnswer.the-variants.{Done, Size, Pin, Record}

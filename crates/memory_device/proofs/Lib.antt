@@ -1,10 +1,6 @@
-pub mod AnswerLaws
 pub mod Answers
-pub mod ByteLaws
-mod HostLaws
+mod CopyLaws
 pub mod Kept
+mod LentLaws
 pub mod Plugged
-pub mod RuleLaws
 mod SetUpLaws
-pub mod TableLaws
-mod WordLaws

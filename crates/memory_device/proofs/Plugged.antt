@@ -5,14 +5,15 @@ use mathlib.Core.List.{List, [], _∷_}
 use Prim.Native.Nat.{ℕ, _<_}
 use lib.Dec.{eqb}
 use lib.ListN.{getD}
-use Rattle.memory_device.specs.Table.{bitAt, within, tableOf}
-use Rattle.memory_device.specs.Device.{Outcome, noBlocks, withTables, fresh, deviceOk}
-use Rattle.memory_device.specs.Host.{refusal, done, sizeFault, withRequested, resized, pinFault, withBlock, pinned, unpinned, wasReset}
-use Rattle.memory_device.specs.Request.{requestOf, blockOf, answered, isAck, withRun, acknowledged, changedBy, carried}
+use Rattle.device_words.specs.Table.{bitAt, within}
+use Rattle.device_words.specs.Device.{MemoryDevice, isPinned, noBlocks, withPlugged, withPins, withPin, fresh, deviceOk}
+use Rattle.device_words.specs.Request.{requestOf, blockOf, answered, isAck, withRun, acknowledged, changedBy}
+use Rattle.device_words.specs.declared.request.Request.{Request}
+use Rattle.device_words.proofs.TableLaws.{table-bit, zero-bit}
+use Rattle.memory_device.specs.Record.{Outcome}
+use Rattle.memory_device.specs.Host.{refusal, done, sizeFault, withRequested, resized, pinFault, pinned, unpinned, wasReset}
+use Rattle.memory_device.specs.Request.{carriedInto, carried}
 use Rattle.memory_device.specs.Calls.{Call, request, resize, pin, unpin, reset, called, afterAck, ledgerAfter, after, ledger}
-use Rattle.memory_device.specs.declared.device.MemoryDevice.{MemoryDevice}
-use Rattle.memory_device.specs.declared.request.Request.{Request}
-use Rattle.memory_device.proofs.TableLaws.{table-bit, zero-bit}
 use Rattle.memory_device.proofs.Kept.{reset-kept, pin-kept, unpin-kept, resize-kept, carry-kept}
 
 -- the table after an acknowledged request, block by block
@@ -39,12 +40,12 @@ module _ (d : MemoryDevice) (had : ℕ → Bool) (b : ℕ) (l : b < 1024) (e : b
   chosen true a c f g = f
   chosen false a c f g = g
 
-  changed : (r : Request) (x : Bool) → bitAt (cond x (withTables d (acknowledged d r) (d .pinned)) d .plugged) b ≡ cond x (afterAck d r had b) (had b)
+  changed : (r : Request) (x : Bool) → bitAt (cond x (withPlugged d (acknowledged d r)) d .plugged) b ≡ cond x (afterAck d r had b) (had b)
   changed r true = acknowledged-bit d r had b l e
   changed r false = e
 
   step-request : (s : List ℕ) → bitAt (carried d s .device .plugged) b ≡ ledgerAfter d had (request s) b
-  unfolding carried changedBy
+  unfolding carriedInto changedBy
   step-request s = go (deviceOk d) refl
     where
       go : (x : Bool) → deviceOk d ≡ x → bitAt (carried d s .device .plugged) b ≡ cond (deviceOk d && isAck (answered d (requestOf s))) (afterAck d (requestOf s) had b) (had b)
@@ -64,11 +65,11 @@ module _ (d : MemoryDevice) (had : ℕ → Bool) (b : ℕ) (l : b < 1024) (e : b
   step (request s) = step-request s
   step (resize n) = chosen (deviceOk d) (cond (sizeFault d n) (refusal 14 d) (done (withRequested d n))) (refusal 27 d) (chosen (sizeFault d n) (refusal 14 d) (done (withRequested d n)) e e) e
   step (pin c) =
-      chosen (deviceOk d) (cond (pinFault d c) (refusal 15 d) (done (withTables d (d .plugged) (withBlock (d .pinned) c true)))) (refusal 27 d)
-      (chosen (pinFault d c) (refusal 15 d) (done (withTables d (d .plugged) (withBlock (d .pinned) c true))) e e) e
+      chosen (deviceOk d) (cond (pinFault d c) (refusal 15 d) (done (withPins d (withPin (d .pinned) c true)))) (refusal 27 d)
+      (chosen (pinFault d c) (refusal 15 d) (done (withPins d (withPin (d .pinned) c true))) e e) e
   step (unpin c) =
-      chosen (deviceOk d) (cond (not (bitAt (d .pinned) c)) (refusal 15 d) (done (withTables d (d .plugged) (withBlock (d .pinned) c false)))) (refusal 27 d)
-      (chosen (not (bitAt (d .pinned) c)) (refusal 15 d) (done (withTables d (d .plugged) (withBlock (d .pinned) c false))) e e) e
+      chosen (deviceOk d) (cond (not (isPinned d c)) (refusal 15 d) (done (withPins d (withPin (d .pinned) c false)))) (refusal 27 d)
+      (chosen (not (isPinned d c)) (refusal 15 d) (done (withPins d (withPin (d .pinned) c false))) e e) e
   step reset = step-reset
 
 -- over any sequence

@@ -5,13 +5,13 @@ use Prim.Native.Nat.{ℕ, suc, _+_}
 use native.Mathlib.Numerals.{add-one}
 use lib.Dec.{eqb}
 use borrow.Author.Tests.{eq-eqb, ne-eqb}
-use Rattle.region_map.specs.Map.{managed, region}
+use Rattle.map_records.specs.Map.{managed, region}
 use Rattle.region_map.specs.Reply.{Reply, accepted, plain, passes}
 use Rattle.region_map.specs.Check.{judged, Accepted}
-use Rattle.region_map.specs.declared.map.RegionMap.{RegionMap}
+use Rattle.map_records.specs.declared.map.RegionMap.{RegionMap}
 use Rattle.region_map.proofs.Replies.{refused-first}
-use Rattle.memory_device.specs.Device.{setupOk}
-use Rattle.memory_device.specs.SetUp.{managedIn, regionSize, deviceOf, refusal, valued, setUp}
+use Rattle.device_words.specs.Device.{setupOk}
+use Rattle.memory_device.specs.SetUp.{managedIn, regionSize, freshDevice, refusal, valued, setUp}
 use Rattle.memory_device.specs.declared.setup.DeviceValues.{DeviceValues}
 
 pub managed-here : (m : RegionMap) (n : ℕ) → region m n .kind ≡ managed → managedIn m (n + 1) ≡ region m n .size
@@ -23,12 +23,12 @@ unfolding managedIn
 managed-not m n h = rw (add-one, ne-eqb (region m n .kind) managed h)
 
 module _ (m : RegionMap) (length : ℕ) (v : DeviceValues) where
-  pub set-up-done : Accepted m length → setupOk (v .«block_size») (v .addr) (regionSize m) (v .«usable_size») (v .«requested_size») ≡ true
-      → record { reply = accepted; device = deviceOf v (regionSize m) } ≡ setUp m length v
+  pub set-up-done : Accepted m length → setupOk (v .«block_size») (v .addr .0) (regionSize m) (v .«usable_size») (v .«requested_size») ≡ true
+      → record { reply = accepted; device = freshDevice v (regionSize m) } ≡ setUp m length v
   unfolding setUp Accepted
   set-up-done ok h = rw (ok, h)
 
-  pub set-up-values : Accepted m length → setupOk (v .«block_size») (v .addr) (regionSize m) (v .«usable_size») (v .«requested_size») ≡ false
+  pub set-up-values : Accepted m length → setupOk (v .«block_size») (v .addr .0) (regionSize m) (v .«usable_size») (v .«requested_size») ≡ false
       → refusal (plain 13) ≡ setUp m length v
   unfolding setUp Accepted
   set-up-values ok h = rw (ok, h)

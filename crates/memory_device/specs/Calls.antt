@@ -3,12 +3,12 @@ use mathlib.Core.Bool.{Bool, true, false, cond, _&&_}
 use mathlib.Core.List.{List, [], _∷_}
 use Prim.Native.Nat.{ℕ}
 use lib.Dec.{eqb}
-use Rattle.memory_device.specs.Table.{within}
-use Rattle.memory_device.specs.Device.{deviceOk}
+use Rattle.device_words.specs.Table.{within}
+use Rattle.device_words.specs.Device.{MemoryDevice, deviceOk}
+use Rattle.device_words.specs.Request.{plug, unplug, unplugAll, requestOf, blockOf, answered, isAck}
+use Rattle.device_words.specs.declared.request.Request.{Request}
 use Rattle.memory_device.specs.Host.{resized, pinned, unpinned, wasReset}
-use Rattle.memory_device.specs.Request.{plug, unplug, unplugAll, requestOf, blockOf, answered, isAck, carried}
-use Rattle.memory_device.specs.declared.device.MemoryDevice.{MemoryDevice}
-use Rattle.memory_device.specs.declared.request.Request.{Request}
+use Rattle.memory_device.specs.Request.{carried}
 
 -- a call of the host or a request of the guest
 pub data Call : Type 0 where

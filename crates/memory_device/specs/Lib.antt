@@ -1,7 +1,6 @@
-pub mod Table
-pub mod Bytes
-pub mod Device
+pub mod Record
 pub mod SetUp
 pub mod Host
 pub mod Request
+pub mod Lent
 pub mod Calls

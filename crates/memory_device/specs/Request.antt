@@ -1,143 +1,23 @@
--- The guest's requests: the range rule, the order of the checks, and the change of the table, each by itself. Assumes nothing: these are definitions.
-use mathlib.Core.Bool.{Bool, true, false, cond, _&&_}
+-- A request carried out on a given record: '27 comes first'. Assumes nothing: these are definitions.
+use mathlib.Core.Bool.{Bool, cond, _&&_}
 use mathlib.Core.List.{List}
-use Prim.Native.Nat.{ℕ, _+_, _-_, _*_, _/_, _%_, _≤_}
-use lib.Dec.{eqb, leb, ltb}
-use lib.ListN.{replicate}
-use Rattle.region_map.specs.Reply.{Reply, accepted, plain}
-use Rattle.memory_device.specs.Bytes.{number, responseBytes}
-use Rattle.memory_device.specs.Table.{bitAt, within, tableOf, heldIn, setIn}
-use Rattle.memory_device.specs.Device.{noBlocks, withTables, pluggedSize, deviceOk, hostReply, sized}
-use Rattle.memory_device.specs.declared.device.MemoryDevice.{MemoryDevice}
-use Rattle.memory_device.specs.declared.request.Request.{Request}
-use Rattle.memory_device.specs.declared.request.Response.{Response}
-use Rattle.memory_device.specs.declared.request.Response.the-variants as response
+use Prim.Native.Nat.{ℕ}
+use lib.Dec.{eqb}
+use lib.ListN.{length, replicate}
+use Rattle.region_map.specs.Reply.{plain}
+use Rattle.device_words.specs.Device.{MemoryDevice, deviceOk}
+use Rattle.device_words.specs.Request.{Outcome, requestOf, carriedOut}
+use Rattle.memory_device.specs.Record.{recordOf, hostReply}
 use Rattle.memory_device.specs.declared.request.Carried.{Carried}
-use Rattle.memory_device.specs.declared.request.Responded.{Responded}
 
--- 'Types PLUG 0, UNPLUG 1, UNPLUG ALL 2, STATE 3'
-abbrev pub plug : ℕ
-plug = 0
+-- the response goes into ten bytes that are lent: with a refusal they stay as they were, and any other number of them is refused
+unfoldable pub carriedInto : MemoryDevice → List ℕ → List ℕ → Outcome
+carriedInto d s bytes =
+    cond (eqb (length bytes) 10 && deviceOk d) (carriedOut d (requestOf s)) (record { reply = plain 27; response = bytes; device = d })
 
-abbrev pub unplug : ℕ
-unplug = 1
-
-abbrev pub unplugAll : ℕ
-unplugAll = 2
-
-abbrev pub state : ℕ
-state = 3
-
--- 'Requests: 24 bytes .. little-endian; padding is ignored in': source 000's layout
-abbrev pub requestOf : List ℕ → Request
-requestOf s = record { kind = number s 0 2; addr = record { 0 = number s 8 8 }; blocks = number s 16 2 }
-
--- 'ACK 0, NACK 1, BUSY 2, ERROR 3', and the state: 'zero except in an acknowledged STATE', 0 all plugged, 1 all unplugged, 2 mixed
-abbrev pub typeOf : Response → ℕ
-typeOf response.Ack = 0
-typeOf response.Nack = 1
-typeOf response.Busy = 2
-typeOf response.Error = 3
-typeOf response.Plugged = 0
-typeOf response.Unplugged = 0
-typeOf response.Mixed = 0
-
-abbrev pub stateOf : Response → ℕ
-stateOf response.Ack = 0
-stateOf response.Nack = 0
-stateOf response.Busy = 0
-stateOf response.Error = 0
-stateOf response.Plugged = 0
-stateOf response.Unplugged = 1
-stateOf response.Mixed = 2
-
--- 'block of a request's address = (address - addr) divided by the block size'
-abbrev pub blockOf : MemoryDevice → ℕ → ℕ
-blockOf d a = (a - d .addr) / d .«block_size»
-
--- 'Range (all but UNPLUG ALL): addr aligned, at least 1 block, all blocks in the usable part; else ERROR'
-abbrev pub inRange : MemoryDevice → Request → Bool
-inRange d r =
-    eqb (r .addr .0 % d .«block_size») 0 && leb 1 (r .blocks) && leb (d .addr) (r .addr .0)
-    && leb (r .addr .0 - d .addr + r .blocks * d .«block_size») (d .«usable_size»)
-
--- how many of a request's blocks are set in a table
-abbrev pub heldOf : MemoryDevice → Request → List ℕ → ℕ
-heldOf d r t = heldIn t (blockOf d (r .addr .0)) (r .blocks)
-
--- 'PLUG: a block already plugged ERROR; plugged size + new over requested NACK; else ACK'
-abbrev pub plugAnswer : MemoryDevice → Request → Response
-plugAnswer d r =
-    cond (ltb 0 (heldOf d r (d .plugged))) response.Error
-    (cond (ltb (d .«requested_size») (pluggedSize d + r .blocks * d .«block_size»)) response.Nack response.Ack)
-
--- 'UNPLUG: a block unplugged ERROR; one pinned BUSY; else ACK'
-abbrev pub unplugAnswer : MemoryDevice → Request → Response
-unplugAnswer d r =
-    cond (ltb (heldOf d r (d .plugged)) (r .blocks)) response.Error (cond (ltb 0 (heldOf d r (d .pinned))) response.Busy response.Ack)
-
--- 'UNPLUG ALL: any pin BUSY; else ACK'
-abbrev pub unplugAllAnswer : MemoryDevice → Response
-unplugAllAnswer d = cond (ltb 0 (setIn (d .pinned) 16)) response.Busy response.Ack
-
--- 'STATE: ACK with 0 all plugged, 1 all unplugged, 2 mixed'
-abbrev pub stateAnswer : MemoryDevice → Request → Response
-stateAnswer d r =
-    cond (eqb (heldOf d r (d .plugged)) (r .blocks)) response.Plugged (cond (eqb (heldOf d r (d .plugged)) 0) response.Unplugged response.Mixed)
-
-abbrev pub ranged : MemoryDevice → Request → Response → Response
-ranged d r x = cond (inRange d r) x response.Error
-
--- the answer to a request; 'any other ERROR'
-unfoldable pub answered : MemoryDevice → Request → Response
-answered d r =
-    cond (eqb (r .kind) plug) (ranged d r (plugAnswer d r))
-    (cond (eqb (r .kind) unplug) (ranged d r (unplugAnswer d r))
-    (cond (eqb (r .kind) unplugAll) (unplugAllAnswer d) (cond (eqb (r .kind) state) (ranged d r (stateAnswer d r)) response.Error)))
-
--- the plug table with a request's blocks set or not
-abbrev pub withRun : MemoryDevice → Request → Bool → List ℕ
-withRun d r on = tableOf (λ b. cond (within (blockOf d (r .addr .0)) (r .blocks) b) on (bitAt (d .plugged) b))
-
--- the plug table after an acknowledged request
-abbrev pub acknowledged : MemoryDevice → Request → List ℕ
-acknowledged d r =
-    cond (eqb (r .kind) plug) (withRun d r true) (cond (eqb (r .kind) unplug) (withRun d r false) (cond (eqb (r .kind) unplugAll) noBlocks (d .plugged)))
-
--- an acknowledgement of PLUG, UNPLUG or UNPLUG ALL
-abbrev pub isAck : Response → Bool
-isAck response.Ack = true
-isAck response.Nack = false
-isAck response.Busy = false
-isAck response.Error = false
-isAck response.Plugged = false
-isAck response.Unplugged = false
-isAck response.Mixed = false
-
--- only an acknowledgement changes the table
-unfoldable pub changedBy : MemoryDevice → Request → Response → MemoryDevice
-changedBy d r x = cond (isAck x) (withTables d (acknowledged d r) (d .pinned)) d
-
--- document 01's answer, the ten bytes of the response, and the next state
-pub record Outcome : Type 0 where
-  pub reply : Reply
-  pub response : List ℕ
-  pub device : MemoryDevice
-
--- a request carried out on a valid record
-abbrev pub carriedOut : MemoryDevice → Request → Outcome
-carriedOut d r =
-    record { reply = accepted; response = responseBytes (typeOf (answered d r)) (stateOf (answered d r)); device = changedBy d r (answered d r) }
-
--- '27 comes first': then no response, and the state as it was
-unfoldable pub carried : MemoryDevice → List ℕ → Outcome
-carried d s = cond (deviceOk d) (carriedOut d (requestOf s)) (record { reply = plain 27; response = replicate 10 0; device = d })
+-- by value: no response on a refusal, and the state as it was
+abbrev pub carried : MemoryDevice → List ℕ → Outcome
+carried d s = carriedInto d s (replicate 10 0)
 
 abbrev pub outcomeOf : Carried → Outcome
-outcomeOf c = record { reply = hostReply (c .answer); response = c .response; device = c .device }
-
--- a request carried out on a record that was judged before: 27 is not judged again; a record whose sizes are past SETUP's bounds gets ERROR, so that every record has an answer
-unfoldable pub responded : MemoryDevice → List ℕ → Responded
-responded d s =
-    cond (sized d) (record { response = carriedOut d (requestOf s) .response; device = carriedOut d (requestOf s) .device })
-    (record { response = responseBytes (typeOf response.Error) (stateOf response.Error); device = d })
+outcomeOf c = record { reply = hostReply (c .answer); response = c .response; device = recordOf (c .device) }

@@ -2,12 +2,12 @@
 use mathlib.Core.Bool.{Bool, true, false, cond}
 use Prim.Native.Nat.{ℕ, zero, suc}
 use lib.Dec.{eqb}
-use Rattle.region_map.specs.Map.{managed, region}
+use Rattle.map_records.specs.Map.{managed, region}
 use Rattle.region_map.specs.Reply.{Reply, accepted, plain, ifAccepted}
 use Rattle.region_map.specs.Check.{reply, judged}
-use Rattle.region_map.specs.declared.map.RegionMap.{RegionMap}
-use Rattle.memory_device.specs.Device.{Outcome, noBlocks, setupOk}
-use Rattle.memory_device.specs.declared.device.MemoryDevice.{MemoryDevice}
+use Rattle.map_records.specs.declared.map.RegionMap.{RegionMap}
+use Rattle.device_words.specs.Device.{MemoryDevice, noBlocks, noDevice, setupOk}
+use Rattle.memory_device.specs.Record.{Outcome, recordOf}
 use Rattle.memory_device.specs.declared.setup.DeviceValues.{DeviceValues}
 use Rattle.memory_device.specs.declared.setup.SetUpAnswer.{SetUpAnswer}
 use Rattle.memory_device.specs.declared.setup.SetUpAnswer.the-variants.{Checked, Values}
@@ -23,11 +23,11 @@ abbrev pub regionSize : RegionMap → ℕ
 regionSize m = managedIn m (m .count)
 
 -- the device record of these values, with nothing plugged or pinned
-abbrev pub deviceOf : DeviceValues → ℕ → MemoryDevice
-deviceOf v region =
+abbrev pub freshDevice : DeviceValues → ℕ → MemoryDevice
+freshDevice v region =
     record {
       «block_size» = v .«block_size»;
-      addr = v .addr;
+      addr = v .addr .0;
       «region_size» = region;
       «usable_size» = v .«usable_size»;
       «requested_size» = v .«requested_size»;
@@ -35,19 +35,15 @@ deviceOf v region =
       pinned = noBlocks;
     }
 
--- the record of a refusal
-abbrev pub noDevice : MemoryDevice
-noDevice =
-    record { «block_size» = 0; addr = 0; «region_size» = 0; «usable_size» = 0; «requested_size» = 0; plugged = noBlocks; pinned = noBlocks }
-
+-- a refusal has the record of zeros
 abbrev pub refusal : Reply → Outcome
 refusal r = record { reply = r; device = noDevice }
 
 -- 13: 'device values break the rules below, or no managed node': without one the region is 0, which breaks them
 abbrev pub valued : DeviceValues → ℕ → Outcome
 valued v region =
-    cond (setupOk (v .«block_size») (v .addr) region (v .«usable_size») (v .«requested_size»))
-    (record { reply = accepted; device = deviceOf v region }) (refusal (plain 13))
+    cond (setupOk (v .«block_size») (v .addr .0) region (v .«usable_size») (v .«requested_size»))
+    (record { reply = accepted; device = freshDevice v region }) (refusal (plain 13))
 
 -- the map is judged first
 unfoldable pub setUp : RegionMap → ℕ → DeviceValues → Outcome
@@ -59,4 +55,4 @@ setUpReply (Checked a) = reply a
 setUpReply Values = plain 13
 
 abbrev pub outcomeOf : SetUp → Outcome
-outcomeOf s = record { reply = setUpReply (s .answer); device = s .device }
+outcomeOf s = record { reply = setUpReply (s .answer); device = recordOf (s .device) }

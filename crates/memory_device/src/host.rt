@@ -1,22 +1,18 @@
-// The host's calls.
+// The host's calls on a record by value: each is the call on its words where they lie.
 ghost use mathlib.Core.Path.{_≡_};
-ghost use Rattle.memory_device.specs.Table.{bitAt};
-ghost use Rattle.memory_device.specs.Device.{deviceOk};
-ghost use Rattle.memory_device.specs.Host.{outcomeOf, resized, pinned, unpinned, wasReset, configured, readOf, byteBlock, byteOf, pluggedAt, runPlugged};
-use crate::bytes::configuration_bytes;
-use crate::device::BlockNumber;
+ghost use Rattle.device_words.specs.Device.{deviceOk};
+ghost use Rattle.memory_device.specs.Record.{recordOf, outcomeOf};
+ghost use Rattle.memory_device.specs.Host.{resized, pinned, unpinned, wasReset, configured, readOf, byteBlock, byteOf};
 use crate::device::Changed;
 use crate::device::HostAnswer;
 use crate::device::MemoryDevice;
-use crate::rules::device_ok;
-use crate::state::can_pin;
-use crate::state::is_in;
-use crate::state::plugged_size;
-use crate::state::with_requested;
-use crate::state::with_tables;
-use crate::table::all_set;
-use crate::table::with_run;
-use region_map::map::RegionOffset;
+use crate::device::device_of;
+use crate::device::words_of;
+use crate::lent;
+use crate::lent::ByteBlock;
+use device_words::device::BlockNumber;
+use device_words::rules::device_ok;
+use map_records::map::RegionOffset;
 
 // The answer, and the configuration's bytes: zeros, where the record is refused.
 pub struct Configuration {
@@ -24,185 +20,85 @@ pub struct Configuration {
     pub bytes: [u8; 56],
 }
 
-// The block of a byte, or that the byte lies outside the region, or 27.
-pub enum ByteBlock {
-    At(BlockNumber),
-    Outside,
-    Record,
-}
-
 impl MemoryDevice {
     // 27's test of a device record.
     pub fn keeps_rules(self) -> bool
-        ensures { λ r. ⌜ r ≡ deviceOk self ⌝ }
+        ensures { λ r. ⌜ r ≡ deviceOk (recordOf self) ⌝ }
     {
-        device_ok(self)
-    }
-
-    // Is the block plugged? None is from 1,024 on.
-    pub fn is_plugged(self, block: BlockNumber) -> bool
-        ensures { λ r. ⌜ r ≡ bitAt (self .plugged) (block .0) ⌝ }
-    {
-        let plugged = self.plugged;
-        is_in(plugged, block.0 as usize)
-    }
-
-    // Are the blocks of a run plugged? None is from 1,024 on.
-    pub fn is_run_plugged(self, from: BlockNumber, count: u16) -> bool
-        ensures { λ r. ⌜ r ≡ runPlugged self (from .0) count ⌝ }
-    {
-        let plugged = self.plugged;
-        let start = from.0 as usize;
-        let n = count as usize;
-        if n == 0 {
-            return true;
-        }
-        if 1024 < start + n {
-            return false;
-        }
-        all_set(plugged, start, n)
-    }
-
-    // Is the byte at an offset of the managed region in a plugged block? Of a record without a block
-    // size every byte is in block 0.
-    pub fn holds(self, offset: RegionOffset) -> bool
-        ensures { λ r. ⌜ r ≡ pluggedAt self (offset .0) ⌝ }
-    {
-        let plugged = self.plugged;
-        if self.block_size == 0 {
-            return is_in(plugged, 0);
-        }
-        let block = offset.0 / self.block_size;
-        is_in(plugged, block as usize)
+        let words = words_of(self);
+        device_ok(&words)
     }
 
     // The requested size is set, and raises the usable size to it if that is lower.
     pub fn set_requested_size(self, size: u64) -> Changed
-        ensures { λ r. ⌜ outcomeOf r ≡ resized self size ⌝ }
+        ensures { λ r. ⌜ outcomeOf r ≡ resized (recordOf self) size ⌝ }
     {
-        if device_ok(self) {
-            if (size % self.block_size != 0) | (self.region_size < size) {
-                return Changed {
-                    answer: HostAnswer::Size,
-                    device: self,
-                };
-            }
-            return Changed {
-                answer: HostAnswer::Done,
-                device: with_requested(self, size),
-            };
-        }
+        let mut words = words_of(self);
+        let answer = lent::set_requested_size(&mut words, size);
+        let device = device_of(&words);
         Changed {
-            answer: HostAnswer::Record,
-            device: self,
+            answer: answer,
+            device: device,
         }
     }
 
     // A system reset: the fresh state, with the sizes and addr as they are.
     pub fn system_reset(self) -> Changed
-        ensures { λ r. ⌜ outcomeOf r ≡ wasReset self ⌝ }
+        ensures { λ r. ⌜ outcomeOf r ≡ wasReset (recordOf self) ⌝ }
     {
-        if device_ok(self) {
-            return Changed {
-                answer: HostAnswer::Done,
-                device: with_tables(self, [0u64; 16], [0u64; 16]),
-            };
-        }
+        let mut words = words_of(self);
+        let answer = lent::system_reset(&mut words);
+        let device = device_of(&words);
         Changed {
-            answer: HostAnswer::Record,
-            device: self,
+            answer: answer,
+            device: device,
         }
     }
 
     // A block that the host holds, so that it is not unplugged.
     pub fn pin(self, block: BlockNumber) -> Changed
-        ensures { λ r. ⌜ outcomeOf r ≡ pinned self (block .0) ⌝ }
+        ensures { λ r. ⌜ outcomeOf r ≡ pinned (recordOf self) (block .0) ⌝ }
     {
-        if device_ok(self) {
-            let b = block.0 as usize;
-            let plugged = self.plugged;
-            let pins = self.pinned;
-            if can_pin(self, b) {
-                let held = with_run(pins, b, 1, true);
-                return Changed {
-                    answer: HostAnswer::Done,
-                    device: with_tables(self, plugged, held),
-                };
-            }
-            return Changed {
-                answer: HostAnswer::Pin,
-                device: self,
-            };
-        }
+        let mut words = words_of(self);
+        let answer = lent::pin(&mut words, block.0 as u64);
+        let device = device_of(&words);
         Changed {
-            answer: HostAnswer::Record,
-            device: self,
+            answer: answer,
+            device: device,
         }
     }
 
     // A block that the host holds no longer.
     pub fn unpin(self, block: BlockNumber) -> Changed
-        ensures { λ r. ⌜ outcomeOf r ≡ unpinned self (block .0) ⌝ }
+        ensures { λ r. ⌜ outcomeOf r ≡ unpinned (recordOf self) (block .0) ⌝ }
     {
-        if device_ok(self) {
-            let b = block.0 as usize;
-            let plugged = self.plugged;
-            let pins = self.pinned;
-            if is_in(pins, b) {
-                let held = with_run(pins, b, 1, false);
-                return Changed {
-                    answer: HostAnswer::Done,
-                    device: with_tables(self, plugged, held),
-                };
-            }
-            return Changed {
-                answer: HostAnswer::Pin,
-                device: self,
-            };
-        }
+        let mut words = words_of(self);
+        let answer = lent::unpin(&mut words, block.0 as u64);
+        let device = device_of(&words);
         Changed {
-            answer: HostAnswer::Record,
-            device: self,
+            answer: answer,
+            device: device,
         }
     }
 
     // The configuration that the guest reads.
     pub fn configuration(self) -> Configuration
-        ensures { λ r. ⌜ readOf r ≡ configured self ⌝ }
+        ensures { λ r. ⌜ readOf r ≡ configured (recordOf self) ⌝ }
     {
-        if device_ok(self) {
-            let size = plugged_size(self);
-            let bytes = configuration_bytes(
-                self.block_size,
-                self.addr,
-                self.region_size,
-                self.usable_size,
-                size,
-                self.requested_size,
-            );
-            return Configuration {
-                answer: HostAnswer::Done,
-                bytes: bytes,
-            };
-        }
+        let words = words_of(self);
+        let mut bytes = [0u8; 56];
+        let answer = lent::configuration(&words, &mut bytes);
         Configuration {
-            answer: HostAnswer::Record,
-            bytes: [0u8; 56],
+            answer: answer,
+            bytes: bytes,
         }
     }
 
     // Document 01's block of a byte: by the offset in the managed region.
     pub fn block_of_byte(self, offset: RegionOffset) -> ByteBlock
-        ensures { λ r. ⌜ byteOf r ≡ byteBlock self (offset .0) ⌝ }
+        ensures { λ r. ⌜ byteOf r ≡ byteBlock (recordOf self) (offset .0) ⌝ }
     {
-        let at = offset.0;
-        if device_ok(self) {
-            if at < self.region_size {
-                let block = at / self.block_size;
-                return ByteBlock::At(BlockNumber(block as u16));
-            }
-            return ByteBlock::Outside;
-        }
-        ByteBlock::Record
+        let words = words_of(self);
+        lent::block_of_byte(&words, offset)
     }
 }

@@ -1,11 +1,8 @@
 // The virtio memory device of source 000: its record, its set-up, the host's calls and the guest's
 // requests, with the refusal numbers 13, 14, 15 and 27.
-mod answer;
-mod bytes;
 pub mod device;
 pub mod host;
+pub mod lent;
 pub mod request;
-mod rules;
 pub mod setup;
 mod state;
-mod table;

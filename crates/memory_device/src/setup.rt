@@ -1,21 +1,25 @@
 // Setting the device up from a given map.
 ghost use mathlib.Core.Path.{_≡_};
-ghost use Prim.Native.Nat.{_≤_};
-ghost use Rattle.memory_device.specs.SetUp.{regionSize, noDevice, setUp, setUpReply, outcomeOf};
+ghost use Rattle.map_records.specs.Words.{mapOf};
+ghost use Rattle.region_map.specs.Span.{Counted};
+ghost use Rattle.memory_device.specs.SetUp.{regionSize, setUp, setUpReply, outcomeOf};
 ghost use Rattle.region_map.specs.Reply.{numberOf};
 use crate::device::MemoryDevice;
-use crate::rules::setup_ok;
+use crate::device::no_device;
+use device_words::rules::setup_ok;
+use map_records::map::GuestAddress;
+use map_records::map::MANAGED;
+use map_records::words::region_at;
+use map_records::words::region_count;
 use region_map::check;
 use region_map::check::MapAnswer;
 use region_map::check::accepts;
 use region_map::check::check_map;
-use region_map::map::MANAGED;
-use region_map::map::RegionMap;
 
 // What the host chooses. The region's size is the managed region's.
 pub struct DeviceValues {
     pub block_size: u64,
-    pub addr: u64,
+    pub addr: GuestAddress,
     pub usable_size: u64,
     pub requested_size: u64,
 }
@@ -33,14 +37,14 @@ pub struct SetUp {
 }
 
 // The size of the managed region, or 0.
-fn region_size(map: RegionMap) -> u64
-    requires { ⌜ map .count ≤ 32 ⌝ }
-    ensures { λ r. ⌜ r ≡ regionSize map ⌝ }
+fn region_size(map: &[u64]) -> u64
+    requires { ⌜ Counted (now map) ⌝ }
+    ensures { λ r. ⌜ r ≡ regionSize (mapOf (now (map .entry))) ⌝ }
 {
-    let count = map.count;
+    let count = region_count(map);
     let mut size: u64 = 0;
     for n in 0..count {
-        let region = map.regions[n];
+        let region = region_at(map, n);
         if region.kind == MANAGED {
             size = region.size;
         }
@@ -48,30 +52,17 @@ fn region_size(map: RegionMap) -> u64
     size
 }
 
-fn no_device() -> MemoryDevice
-    ensures { λ r. ⌜ r ≡ noDevice ⌝ }
-{
-    MemoryDevice {
-        block_size: 0,
-        addr: 0,
-        region_size: 0,
-        usable_size: 0,
-        requested_size: 0,
-        plugged: [0u64; 16],
-        pinned: [0u64; 16],
-    }
-}
-
 // The fresh device of a map that is judged first.
-pub fn set_up(map: RegionMap, memory_length: u64, values: DeviceValues) -> SetUp
-    ensures { λ r. ⌜ outcomeOf r ≡ setUp map «memory_length» values ⌝ }
+pub fn set_up(map: &[u64], memory_length: u64, values: DeviceValues) -> SetUp
+    ensures { λ r. ⌜ outcomeOf r ≡ setUp (mapOf (now (map .entry))) «memory_length» values ⌝ }
 {
     let answer = check_map(map, memory_length);
     if accepts(answer) {
         let region = region_size(map);
+        let addr = values.addr;
         if setup_ok(
             values.block_size,
-            values.addr,
+            addr,
             region,
             values.usable_size,
             values.requested_size,
@@ -80,7 +71,7 @@ pub fn set_up(map: RegionMap, memory_length: u64, values: DeviceValues) -> SetUp
                 answer: SetUpAnswer::Checked(answer),
                 device: MemoryDevice {
                     block_size: values.block_size,
-                    addr: values.addr,
+                    addr: addr,
                     region_size: region,
                     usable_size: values.usable_size,
                     requested_size: values.requested_size,

@@ -1,28 +1,26 @@
-// What the host's calls and the guest's requests ask of a valid record.
+// What the host's calls ask of the words of a valid device, and what they change.
 ghost use mathlib.Core.Path.{_≡_};
 ghost use mathlib.Core.Bool.{true, not};
-ghost use Prim.Native.Nat.{_≤_, _<_, max};
-ghost use Rattle.memory_device.specs.Table.{bitAt};
-ghost use Rattle.memory_device.specs.Device.{withTables, pluggedSize, Valid};
-ghost use Rattle.memory_device.specs.Host.{pinFault, withRequested};
-use crate::device::MemoryDevice;
-use crate::table::is_set;
-use crate::table::total;
-
-// The record with other tables.
-pub fn with_tables(device: MemoryDevice, plugged: [u64; 16], pinned: [u64; 16]) -> MemoryDevice
-    ensures { λ r. ⌜ r ≡ withTables device plugged pinned ⌝ }
-{
-    MemoryDevice {
-        block_size: device.block_size,
-        addr: device.addr,
-        region_size: device.region_size,
-        usable_size: device.usable_size,
-        requested_size: device.requested_size,
-        plugged: plugged,
-        pinned: pinned,
-    }
-}
+ghost use Prim.Native.Nat.{_<_, max};
+ghost use lib.ListN.{length};
+ghost use Rattle.device_words.specs.Device.{Valid, isPinned, withPins, withPin, fresh};
+ghost use Rattle.device_words.specs.Words.{deviceAt, deviceWords};
+ghost use Rattle.memory_device.specs.Host.{sizeFault, withRequested, pinFault, configurationOf};
+use device_words::bytes::put_configuration;
+use device_words::pins::is_pinned;
+use device_words::pins::set_pin;
+use device_words::state::plugged_size;
+use device_words::table::clear;
+use device_words::table::is_in;
+use device_words::words::ADDR;
+use device_words::words::BLOCK_SIZE;
+use device_words::words::PINNED;
+use device_words::words::PLUGGED;
+use device_words::words::REGION_SIZE;
+use device_words::words::REQUESTED_SIZE;
+use device_words::words::USABLE_SIZE;
+use device_words::words::WORDS;
+use map_records::map::GuestAddress;
 
 fn larger(a: u64, b: u64) -> u64
     ensures { λ r. ⌜ r ≡ max a b ⌝ }
@@ -30,52 +28,76 @@ fn larger(a: u64, b: u64) -> u64
     if a < b { b } else { a }
 }
 
-// The record with another requested size, and the usable size at least that.
-pub fn with_requested(device: MemoryDevice, size: u64) -> MemoryDevice
-    ensures { λ r. ⌜ r ≡ withRequested device size ⌝ }
+// Is a requested size refused?
+pub fn size_fault(device: &[u64], size: u64) -> bool
+    requires { ⌜ (length (now device) ≡ 37) × Valid (deviceAt (now device)) ⌝ }
+    ensures { λ r. ⌜ r ≡ sizeFault (deviceAt (now (device .entry))) size ⌝ }
 {
-    let usable = larger(device.usable_size, size);
-    let plugged = device.plugged;
-    let pinned = device.pinned;
-    MemoryDevice {
-        block_size: device.block_size,
-        addr: device.addr,
-        region_size: device.region_size,
-        usable_size: usable,
-        requested_size: size,
-        plugged: plugged,
-        pinned: pinned,
-    }
+    (size % device[BLOCK_SIZE] != 0) | (device[REGION_SIZE] < size)
 }
 
-// Is a block of any number set? None is from 1,024 on.
-pub fn is_in(words: [u64; 16], b: usize) -> bool
-    ensures value { λ r. ⌜ r ≡ bitAt words b ⌝ }
-    ensures room { λ r. ⌜ (r ≡ true → b < 1024) ⌝ }
+// Another requested size, and the usable size at least that.
+pub fn set_requested(device: &mut [u64], size: u64)
+    requires { ⌜ length (now device) ≡ 37 ⌝ }
+    ensures { λ _. ⌜ now (device .exit) ≡ deviceWords (withRequested (deviceAt (now (device .entry))) size) ⌝ }
 {
-    if b < 1024 {
-        return is_set(words, b);
-    }
-    false
+    let usable = larger(device[USABLE_SIZE], size);
+    device[USABLE_SIZE] = usable;
+    device[REQUESTED_SIZE] = size;
+}
+
+// Nothing is plugged or pinned any longer.
+pub fn clear_tables(device: &mut [u64])
+    requires { ⌜ length (now device) ≡ 37 ⌝ }
+    ensures { λ _. ⌜ now (device .exit) ≡ deviceWords (fresh (deviceAt (now (device .entry)))) ⌝ }
+{
+    clear(&mut device[PLUGGED..PINNED]);
+    clear(&mut device[PINNED..WORDS]);
 }
 
 // Is the block in the region, plugged and not pinned?
-pub fn can_pin(device: MemoryDevice, b: usize) -> bool
-    requires { ⌜ Valid device ⌝ }
-    ensures value { λ r. ⌜ r ≡ not (pinFault device b) ⌝ }
+pub fn can_pin(device: &[u64], b: usize) -> bool
+    requires { ⌜ (length (now device) ≡ 37) × Valid (deviceAt (now device)) ⌝ }
+    ensures value { λ r. ⌜ r ≡ not (pinFault (deviceAt (now (device .entry))) b) ⌝ }
     ensures room { λ r. ⌜ (r ≡ true → b < 1024) ⌝ }
 {
-    let plugged = device.plugged;
-    let pinned = device.pinned;
-    let blocks = (device.region_size / device.block_size) as usize;
-    (b < blocks) & (is_in(plugged, b) & !is_in(pinned, b))
+    let blocks = (device[REGION_SIZE] / device[BLOCK_SIZE]) as usize;
+    let plugged = &device[PLUGGED..PINNED];
+    let pins = &device[PINNED..WORDS];
+    (b < blocks) & (is_in(plugged, b) & !is_pinned(pins, b))
 }
 
-// Block size times the blocks plugged.
-pub fn plugged_size(device: MemoryDevice) -> u64
-    requires { ⌜ device .«block_size» ≤ 1073741824 ⌝ }
-    ensures { λ r. ⌜ (r ≡ pluggedSize device) × (r ≤ 1099511627776) ⌝ }
+// Is the block pinned?
+pub fn can_unpin(device: &[u64], b: usize) -> bool
+    requires { ⌜ length (now device) ≡ 37 ⌝ }
+    ensures value { λ r. ⌜ r ≡ isPinned (deviceAt (now (device .entry))) b ⌝ }
+    ensures room { λ r. ⌜ (r ≡ true → b < 1024) ⌝ }
 {
-    let plugged = device.plugged;
-    device.block_size * total(plugged)
+    is_pinned(&device[PINNED..WORDS], b)
+}
+
+// A block is pinned, or no longer.
+pub fn put_pin(device: &mut [u64], b: usize, on: bool)
+    requires { ⌜ (length (now device) ≡ 37) × (b < 1024) ⌝ }
+    ensures { λ _. ⌜ now (device .exit) ≡ deviceWords (withPins (deviceAt (now (device .entry))) (withPin (deviceAt (now (device .entry)) .pinned) b on)) ⌝ }
+{
+    set_pin(&mut device[PINNED..WORDS], b, on);
+}
+
+// The configuration's bytes.
+pub fn put_values(device: &[u64], out: &mut [u8])
+    requires { ⌜ (length (now device) ≡ 37) × Valid (deviceAt (now device)) × (length (now out) ≡ 56) ⌝ }
+    ensures { λ _. ⌜ now (out .exit) ≡ configurationOf (deviceAt (now (device .entry))) ⌝ }
+{
+    let addr = GuestAddress(device[ADDR]);
+    let size = plugged_size(device);
+    put_configuration(
+        out,
+        device[BLOCK_SIZE],
+        addr,
+        device[REGION_SIZE],
+        device[USABLE_SIZE],
+        size,
+        device[REQUESTED_SIZE],
+    );
 }

@@ -5,17 +5,17 @@ use Prim.Native.Nat.{ℕ, _+_, _-_, _≤_, _<_, max}
 use native.Mathlib.Omega.{arith}
 use lib.Dec.{eqb, leb, ltb}
 use borrow.Author.Tests.{ltb-true, ltb-false, leb-false, eqb-true, eqb-false, not-false, lt-ltb, eq-eqb, ne-eqb}
-use Rattle.region_map.specs.Map.{container, mmio, alias, managed, has, valueOf, region}
+use Rattle.map_records.specs.Map.{container, mmio, alias, managed, has, valueOf, region}
 use Rattle.region_map.specs.Fault.{limit, parentOf, backed, extra, largeFault, rangeFault, extraFault, fieldFault, parentFault, targetFault, rootFault, linkFault, memoryFault, fault}
 use Rattle.region_map.specs.Clash.{share, priorityOf, memoryClash, managedClash, portClash, siblings, siblingClash, clash}
 use Rattle.region_map.specs.Reply.{Reply, accepted, nodes, place, plain, _then_, passes, lowest, firstPair}
 use Rattle.region_map.specs.Span.{Walkable}
 use Rattle.region_map.specs.Check.{judged, countFault, Accepted}
 use Rattle.region_map.specs.Sound.{Apart, Bounded, Parented, Rooted, Sound}
-use Rattle.region_map.specs.declared.map.Region.{Region}
-use Rattle.region_map.specs.declared.map.RegionMap.{RegionMap}
-use Rattle.region_map.specs.declared.map.Field.{Field}
-use Rattle.region_map.specs.declared.map.Field.the-variants.{Parent, Offset, Size, Priority, MemoryStart, Port, Target, AliasOffset}
+use Rattle.map_records.specs.declared.map.Region.{Region}
+use Rattle.map_records.specs.declared.map.RegionMap.{RegionMap}
+use Rattle.map_records.specs.declared.map.Field.{Field}
+use Rattle.map_records.specs.declared.map.Field.the-variants.{Parent, Offset, Size, Priority, MemoryStart, Port, Target, AliasOffset}
 use Rattle.region_map.specs.declared.fault.NodeRule.the-variants as node
 use Rattle.region_map.specs.declared.clash.PairRule.{PairRule}
 use Rattle.region_map.specs.declared.clash.PairRule.the-variants as pair

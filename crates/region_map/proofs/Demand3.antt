@@ -9,20 +9,22 @@ use lib.Dec.{eqb, ltb}
 use lib.ListN.{length, take, getD, replicate, List·getD-append}
 use lib.Seq.{take-append-seam}
 use borrow.Author.Tests.{lt-ltb, le-ltb, eq-eqb, ne-eqb, eqb-false}
-use Rattle.region_map.specs.Map.{ram, mmio, managed, region}
+use Rattle.map_records.specs.Map.{ram, mmio, managed, region}
 use Rattle.region_map.specs.Reply.{accepted, plain}
 use Rattle.region_map.specs.Fault.{backed}
 use Rattle.region_map.specs.Check.{judged, Accepted}
 use Rattle.region_map.specs.Sound.{Sound}
 use Rattle.region_map.specs.Walk.{walk, walkRoot}
 use Rattle.region_map.specs.FlatList.{flat, inside, answerOf, lookup, Entry, Follows, Chain, Longest}
-use Rattle.region_map.specs.Flatten.{backingOf, rootSize, flatList, noRange, entries, viewOf, refusal, listed, flattened, FirstHalf}
-use Rattle.region_map.specs.ViewRules.{rangeOf, lastOffset, LawfulRange, Lawful}
-use Rattle.region_map.specs.declared.map.RegionMap.{RegionMap}
-use Rattle.region_map.specs.declared.map.RegionOffset.{RegionOffset}
+use Rattle.region_map.specs.Flatten.{backingOf, rootSize, flatList, viewHolding, refusal, listed, flattened, FirstHalf}
+use Rattle.map_records.specs.View.{noRange, entries}
+use Rattle.region_map.specs.ViewRules.{LawfulRange, Lawful}
+use Rattle.map_records.specs.View.{rangeOf, lastOffset}
+use Rattle.map_records.specs.declared.map.RegionMap.{RegionMap}
+use Rattle.map_records.specs.declared.map.RegionOffset.{RegionOffset}
 use Rattle.region_map.specs.declared.resolve.Resolved.{Resolved}
 use Rattle.region_map.specs.declared.resolve.Resolved.the-variants.{Nothing, At}
-use Rattle.region_map.specs.declared.view.FlatRange.{FlatRange}
+use Rattle.map_records.specs.declared.view.FlatRange.{FlatRange}
 use Rattle.region_map.specs.declared.flat.Backing.{Backing}
 use Rattle.region_map.proofs.Accepted.{accepted-sound}
 use Rattle.region_map.proofs.WalkLaws.{past}
@@ -56,14 +58,14 @@ list-first-half m =
       only = λ other c g. unique (backingOf m) other (flatList m) c (list-longest m) (λ a. g a ∙ sym (list-gives m a));
     }
 
-entries-view : (l : List FlatRange) → entries (viewOf l) ≡ l
-unfolding viewOf
+entries-view : (l : List FlatRange) → entries (viewHolding l) ≡ l
+unfolding viewHolding
 entries-view l = take-append-seam l (replicate (256 - length l) noRange)
 
 module _ (m : RegionMap) (memory : ℕ) (ok : Accepted m memory) where
   -- Demand 3, first half: for every accepted map of at most 256 ranges the view that `flatten` makes holds that list
   pub demand3-first-half : length (flatList m) ≤ 256
-      → (flattened m memory ≡ record { reply = accepted; view = viewOf (flatList m) }) × FirstHalf m (entries (viewOf (flatList m)))
+      → (flattened m memory ≡ record { reply = accepted; view = viewHolding (flatList m) }) × FirstHalf m (entries (viewHolding (flatList m)))
   unfolding flattened Accepted listed
   demand3-first-half h =
       (rw (ok, le-ltb 256 (length (flatList m)) h), subst (FirstHalf m) (sym (entries-view (flatList m))) (list-first-half m))
@@ -154,13 +156,13 @@ module _ (m : RegionMap) (memory : ℕ) (ok : Accepted m memory) where
           go true e = refl
           go false e = eq-eqb k managed (f (eqb-false k ram e) g)
 
-  range-eq : (k : ℕ) → k < length (flatList m) → rangeOf (viewOf (flatList m)) k ≡ getD (flatList m) k noRange
-  unfolding viewOf
+  range-eq : (k : ℕ) → k < length (flatList m) → rangeOf (viewHolding (flatList m)) k ≡ getD (flatList m) k noRange
+  unfolding viewHolding
   range-eq k h = List·getD-append (flatList m) (replicate (256 - length (flatList m)) noRange) noRange k h
 
   -- a made view keeps rule 27's facts, for the same map and memory length
-  pub made-lawful : length (flatList m) ≤ 256 → Lawful m memory (viewOf (flatList m))
-  unfolding viewOf
+  pub made-lawful : length (flatList m) ≤ 256 → Lawful m memory (viewHolding (flatList m))
+  unfolding viewHolding
   made-lawful few =
       record {
         few = few;

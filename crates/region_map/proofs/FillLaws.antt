@@ -7,15 +7,16 @@ use Prim.Native.Nat.{ℕ, zero, suc, _+_, _-_, _*_, _^_, _≤_, _<_}
 use native.Mathlib.Nat.{not-suc-le-zero, le-of-suc-le-suc, eq-or-lt-of-le}
 use native.Mathlib.Decide.{decLt}
 use native.Mathlib.Omega.{arith}
-use lib.Dec.{leb}
+use lib.Dec.{leb, ltb}
 use lib.ListN.{length, getD, set, length-set}
 use lib.Seq.{getD-set-same, getD-set-other}
 use borrow.Author.Count.{below-more}
-use borrow.Author.Tests.{lt-ltb, le-ltb, le-leb, lt-leb}
+use borrow.Author.Tests.{ltb-true, leb-true, lt-ltb, le-ltb, le-leb, lt-leb}
 use Rattle.region_map.specs.Walk.{orElse}
 use Rattle.region_map.specs.declared.resolve.Resolved.{Resolved}
 use Rattle.region_map.specs.declared.resolve.Resolved.the-variants.{Nothing, At}
-use Rattle.region_map.specs.Pieces.{countOf, horizonOf, startOf, firstOf, endOf, regionOf, offsetOf, window, itself, pieceGives, given, shown, Pieces, Behind, Spot, Fits, Free}
+use Rattle.region_map.specs.Pieces.{countOf, horizonOf, startOf, firstOf, endOf, regionOf, offsetOf, window, itself, pieceGives, given, shown, Pieces, Behind, Spot, Fits, Free, isTaken, Run}
+use Rattle.region_map.proofs.Bools.{and-fst, and-snd}
 use Rattle.region_map.proofs.WindowLaws.{window-in, window-before, window-past, or-nothing}
 
 -- a search by halving: the pieces below `low` end at or before the address, and the one at `high` after it
@@ -59,6 +60,12 @@ halved-spot {w} {a} {low} {high} h q =
       after = λ l. rw e at (h .after (omega arith));
     }
 
+-- where a test holds that asks whether an address is taken, the piece holds the address
+pub taken-on : (w : List ℕ) (i a : ℕ) (t r : Bool) → r ≡ isTaken w i a → (t && r) ≡ true → (i < countOf w) × (firstOf w i ≤ a)
+taken-on w i a t r e h =
+    let on : isTaken w i a ≡ true = sym e ∙ and-snd t r h in
+    (ltb-true i (countOf w) (and-fst _ (leb (firstOf w i) a) on), leb-true (firstOf w i) a (and-snd (ltb i (countOf w)) _ on))
+
 -- up to the nearer of the next piece and the end the addresses are free
 pub free-least : (w : List ℕ) (i a end r : ℕ) → i < countOf w → a < firstOf w i → a ≤ end → r ≤ firstOf w i → r ≤ end → (r < firstOf w i → end ≤ r) → Free w i a end r
 free-least w i a end r some next h low high least = record {
@@ -94,6 +101,35 @@ settled w (suc k) i x h p q y =
         window-in (itself (regionOf w k)) (firstOf w k) (offsetOf w k) (endOf w k) x (rw e at p) (rw e at q) in
         or-at (given w k x) (pieceGives w k x) y (λ v. rw s)
 
+-- Runs of pieces that follow each other without a gap.
+
+module _ {w : List ℕ} (p : Pieces w) where
+  spot-past : (i : ℕ) → i < countOf w → Spot w (endOf w i) (i + 1)
+  spot-past i some = record {
+    bound = omega arith;
+    before = below-more (λ j. endOf w j ≤ endOf w i) i (λ j l. omega (arith, p .apart j i l some, p .order i some)) (omega arith);
+    after = λ l. omega (arith, p .apart i (i + 1) (omega arith) l, p .order (i + 1) l);
+  }
+
+  -- a piece by itself, and one more
+  pub run-one : (i : ℕ) → i < countOf w → Run w i (endOf w i) (i + 1)
+  run-one i some = record {
+    past = omega arith;
+    spot = spot-past i some;
+    taken = λ x l h. settled w (countOf w) i x some l h;
+  }
+
+  pub run-more : {i b j : ℕ} → Run w i b j → j < countOf w → firstOf w j ≤ b → Run w i (endOf w j) (j + 1)
+  run-more {i} {b} {j} r some next = record {
+    past = omega (arith, r .past, r .spot .after some);
+    spot = spot-past j some;
+    taken = λ x l h. go x l h (decLt x b);
+  }
+    where
+      go : (x : ℕ) → firstOf w i ≤ x → x < endOf w j → Dec (x < b) → (y : Resolved) → orElse (shown w x) y ≡ shown w x
+      go x l h (yes q) = r .taken x l q
+      go x l h (no q) = settled w (countOf w) j x some (omega arith) h
+
 -- tables whose words from the third on agree give the same
 pub given-same : (v w : List ℕ) → ((n : ℕ) → 3 ≤ n → getD v n 0 ≡ getD w n 0) → (k x : ℕ) → given v k x ≡ given w k x
 unfolding given
@@ -124,9 +160,6 @@ module _ {u : List ℕ} {region first offset end : ℕ} where
     high = λ x _ _. refl;
   }
 
-  pub filled-as : {v w : List ℕ} {b a i : ℕ} → v ≡ w → b ≡ a → Filled u region first offset end w a i → Filled u region first offset end v b i
-  filled-as p q f = rw (p, q) f
-
   module _ {w : List ℕ} {a i : ℕ} (f : Filled u region first offset end w a i) where
     -- what lies from the horizon on does not matter
     pub filled-horizon : horizonOf w ≤ a → Behind u (window (itself region) first offset end) w
@@ -151,31 +184,27 @@ module _ {u : List ℕ} {region first offset end : ℕ} where
             f .high x (omega arith) l
             ∙ sym (ap (orElse (shown u x)) (window-past (itself region) first offset end x (omega arith)) ∙ or-nothing (shown u x))
 
-    -- past a piece that holds the address
-    pub filled-past : i < countOf w → firstOf w i ≤ a → Filled u region first offset end w (endOf w i) (i + 1)
-    filled-past some taken = record {
+    -- past the pieces from one that holds the address on
+    pub filled-run : {b j : ℕ} → i < countOf w → firstOf w i ≤ a → Run w i b j → Filled u region first offset end w b j
+    filled-run {b} {j} some taken r = record {
       kept = f .kept;
       start = f .start;
       within = f .within;
-      reached = omega (arith, f .reached, f .spot .after some);
-      spot = record {
-        bound = omega arith;
-        before = below-more (λ j. endOf w j ≤ endOf w i) i (λ j l. omega (arith, f .spot .before j l, f .spot .after some)) (omega arith);
-        after = λ l. omega (arith, f .kept .apart i (i + 1) (omega arith) l, f .kept .order (i + 1) l);
-      };
+      reached = omega (arith, f .reached, f .spot .after some, r .past);
+      spot = r .spot;
       low = λ x h l. go x h l (decLt x a);
-      high = λ x h l. f .high x (omega (arith, f .spot .after some)) l;
+      high = λ x h l. f .high x (omega (arith, f .spot .after some, r .past)) l;
     }
       where
-        go : (x : ℕ) → x < endOf w i → x < horizonOf w → Dec (x < a) → shown w x ≡ orElse (shown u x) (window (itself region) first offset end x)
+        go : (x : ℕ) → x < b → x < horizonOf w → Dec (x < a) → shown w x ≡ orElse (shown u x) (window (itself region) first offset end x)
         go x h l (yes q) = f .low x q l
         go x h l (no q) =
-            sym (settled w (countOf w) i x some (omega arith) h (window (itself region) first offset end x))
-            ∙ ap (λ (r : Resolved). orElse r (window (itself region) first offset end x)) (f .high x (omega arith) l)
+            sym (r .taken x (omega arith) h (window (itself region) first offset end x))
+            ∙ ap (λ (z : Resolved). orElse z (window (itself region) first offset end x)) (f .high x (omega arith) l)
 
     -- a piece fits where the addresses are free
     pub filled-fits : (stop : ℕ) → Free w i a end stop → (stop ≡ a → ⊥) → (i ≡ 256 → ⊥) → a < horizonOf w → startOf u ≤ first → end ≤ 2 ^ 48 → region < 32
-        → Fits w i (record { first = a; end = stop; region = region; offset = offset + (a - first) })
+        → Fits w i (record { first = record { 0 = a }; end = record { 0 = stop }; region = region; offset = record { 0 = offset + (a - first) } })
     filled-fits stop free moved room near from far below = record {
       place = f .spot .bound;
       room = omega (arith, f .spot .bound, f .kept .few);

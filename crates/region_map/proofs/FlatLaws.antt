@@ -11,7 +11,7 @@ use lib.ListN.{length}
 use Rattle.region_map.specs.declared.resolve.Resolved.{Resolved}
 use Rattle.region_map.specs.declared.resolve.Resolved.the-variants.{Nothing, At}
 use Rattle.region_map.specs.declared.flat.Backing.{Backing}
-use Rattle.region_map.specs.declared.view.FlatRange.{FlatRange}
+use Rattle.map_records.specs.declared.view.FlatRange.{FlatRange}
 use Rattle.region_map.specs.FlatList.{rangeAt, Joined, joins, grown, after, push, extend, flat, inside, answerOf, lookup}
 use Rattle.region_map.specs.Span.{shift}
 use Rattle.region_map.specs.FlatList.{Entry, Follows, Chain, Longest}

@@ -5,12 +5,12 @@ use Prim.Native.Nat.{ℕ, zero, suc, _+_, _-_, _%_, _≤_, _<_}
 use native.Mathlib.Omega.{arith}
 use borrow.Author.Tests.{eqb-true, eqb-false, leb-false}
 use lib.Dec.{eqb, leb}
-use Rattle.region_map.specs.Map.{container, ram, mmio, alias, managed, region}
+use Rattle.map_records.specs.Map.{container, ram, mmio, alias, managed, region}
 use Rattle.region_map.specs.Check.{Accepted}
 use Rattle.region_map.specs.Sound.{Sound}
 use Rattle.region_map.specs.Walk.{ranked, orElse, holds, asked, own, answer, tried, visit, walkBelow, walk, walkRoot}
-use Rattle.region_map.specs.declared.map.RegionMap.{RegionMap}
-use Rattle.region_map.specs.declared.map.RegionOffset.{RegionOffset}
+use Rattle.map_records.specs.declared.map.RegionMap.{RegionMap}
+use Rattle.map_records.specs.declared.map.RegionOffset.{RegionOffset}
 use Rattle.region_map.specs.declared.resolve.Resolved.{Resolved}
 use Rattle.region_map.specs.declared.resolve.Resolved.the-variants.{Nothing, At}
 use Rattle.region_map.proofs.Accepted.{accepted-sound}

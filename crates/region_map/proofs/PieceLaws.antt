@@ -11,6 +11,7 @@ use borrow.Author.Tests.{lt-leb, le-ltb}
 use lib.Dec.{leb}
 use lib.ListN.{length, getD, set, length-set}
 use lib.Seq.{getD-set-same, getD-set-other, sets, length-sets}
+use Rattle.map_records.proofs.StoreLaws.{sets-below, sets-above, sets-within}
 use Rattle.region_map.specs.declared.resolve.Resolved.{Resolved}
 use Rattle.region_map.specs.declared.resolve.Resolved.the-variants.{Nothing, At}
 use Rattle.region_map.specs.declared.pieces.Piece.{Piece}
@@ -25,9 +26,6 @@ side e n = ⊎-elim (λ z. inr (omega arith)) (λ p. inl (omega arith)) (eq-zero
 
 pub word-at : (w : List ℕ) (j k : ℕ) → j ≡ k → getD w j 0 ≡ getD w k 0
 word-at w j k e = ap (λ (x : ℕ). getD w x 0) e
-
-pub words-put : (w : List ℕ) (k : ℕ) (p : Piece) → set (set (set (set w k (p .first)) (k + 1) (p .end)) (k + 2) (p .region)) (k + 3) (p .offset) ≡ sets w k (pieceWords p)
-words-put w k p = rw (add-one, add-two, add-three)
 
 -- An empty table.
 
@@ -82,17 +80,29 @@ pub record Moving (w : List ℕ) (k top : ℕ) (v : List ℕ) : Type 0 where
 pub move-start : (w : List ℕ) (top : ℕ) → Moving w top top w
 move-start w top = record { size = refl; low = λ j h. refl; up = λ j l h. absurd (omega arith) }
 
-pub move-on : (w v : List ℕ) (k top : ℕ) → 0 < k → k + 3 < length w → Moving w k top v → Moving w (k - 1) top (set v ((k - 1) + 4) (getD v (k - 1) 0))
-move-on w v k top p fits m = record {
-  size = length-set v ((k - 1) + 4) (getD v (k - 1) 0) ∙ m .size;
-  low = λ j h. getD-set-other v ((k - 1) + 4) j (getD v (k - 1) 0) 0 (λ e. omega arith) ∙ m .low j (omega arith);
-  up = λ j l h. ⊎-elim
-      (λ below. let e : k - 1 ≡ j = omega arith in
-      subst (λ (x : ℕ). getD (set v (x + 4) (getD v x 0)) (j + 4) 0 ≡ getD w j 0) (sym e)
-      (getD-set-same v (j + 4) (getD v j 0) 0 (omega (arith, m .size)) ∙ m .low j (omega arith)))
-      (λ above. getD-set-other v ((k - 1) + 4) (j + 4) (getD v (k - 1) 0) 0 (λ e. omega arith) ∙ m .up j above h)
-      (side j k);
-}
+-- a piece moved up by one
+module _ (w v : List ℕ) (k top : ℕ) (p : Piece) (same : (p .first .0 ≡ firstOf v k) × (p .end .0 ≡ endOf v k) × (p .region ≡ regionOf v k) × (p .offset .0 ≡ offsetOf v k)) where
+  word-of : (d : ℕ) → d < 4 → getD (pieceWords p) d 0 ≡ getD v (3 + 4 * k + d) 0
+  word-of zero h = let e : 3 + 4 * k ≡ 3 + 4 * k + 0 = omega arith in same .0 ∙ ap (λ (x : ℕ). getD v x 0) e
+  word-of (suc zero) h = let e : 4 + 4 * k ≡ 3 + 4 * k + 1 = omega arith in same .1 ∙ ap (λ (x : ℕ). getD v x 0) e
+  word-of (suc (suc zero)) h = let e : 5 + 4 * k ≡ 3 + 4 * k + 2 = omega arith in same .2 ∙ ap (λ (x : ℕ). getD v x 0) e
+  word-of (suc (suc (suc zero))) h = let e : 6 + 4 * k ≡ 3 + 4 * k + 3 = omega arith in same .3 ∙ ap (λ (x : ℕ). getD v x 0) e
+  word-of (suc (suc (suc (suc d)))) h = absurd (omega arith)
+
+  pub move-piece : 3 + 4 * (k + 1) + 4 ≤ length w → Moving w (3 + 4 * (k + 1)) top v → Moving w (3 + 4 * k) top (sets v (3 + 4 * (k + 1)) (pieceWords p))
+  move-piece room m = record {
+    size = length-sets v (3 + 4 * (k + 1)) (pieceWords p) ∙ m .size;
+    low = λ j h. sets-below v (3 + 4 * (k + 1)) (pieceWords p) j (omega arith) ∙ m .low j (omega arith);
+    up = λ j l h. ⊎-elim
+        (λ below.
+        let e : j + 4 ≡ 3 + 4 * (k + 1) + (j - (3 + 4 * k)) = omega arith in
+        let f : 3 + 4 * k + (j - (3 + 4 * k)) ≡ j = omega arith in
+        ap (λ (x : ℕ). getD (sets v (3 + 4 * (k + 1)) (pieceWords p)) x 0) e
+        ∙ sets-within v (3 + 4 * (k + 1)) (pieceWords p) (j - (3 + 4 * k)) (omega arith) (omega (arith, m .size))
+        ∙ word-of (j - (3 + 4 * k)) (omega arith) ∙ ap (λ (x : ℕ). getD v x 0) f ∙ m .low j (omega arith))
+        (λ above. sets-above v (3 + 4 * (k + 1)) (pieceWords p) (j + 4) (omega arith) ∙ m .up j above h)
+        (side j (3 + 4 * (k + 1)));
+  }
 
 pub move-end : (w v : List ℕ) (k i n : ℕ) → k ≤ 3 + 4 * i → Moving w k (3 + 4 * n) v → 3 + 4 * i ≤ k → Moved w i n v
 move-end w v k i n l m g = record { size = m .size; low = λ j h. m .low j (omega arith); up = λ j h t. m .up j (omega arith) t }
@@ -102,48 +112,48 @@ move-end w v k i n l m g = record { size = m .size; low = λ j h. m .low j (omeg
 module _ (v : List ℕ) (k : ℕ) (p : Piece) where
   put-other : (x : ℕ) → (x < k) ⊎ (k + 4 ≤ x) → getD (sets v k (pieceWords p)) x 0 ≡ getD v x 0
   put-other x away =
-      let v1 : List ℕ = set v k (p .first) in
-      let v2 : List ℕ = set v1 (suc k) (p .end) in
+      let v1 : List ℕ = set v k (p .first .0) in
+      let v2 : List ℕ = set v1 (suc k) (p .end .0) in
       let v3 : List ℕ = set v2 (suc (suc k)) (p .region) in
-      getD-set-other v3 (suc (suc (suc k))) x (p .offset) 0 (λ e. ⊎-elim (λ l. omega arith) (λ l. omega arith) away)
+      getD-set-other v3 (suc (suc (suc k))) x (p .offset .0) 0 (λ e. ⊎-elim (λ l. omega arith) (λ l. omega arith) away)
       ∙ getD-set-other v2 (suc (suc k)) x (p .region) 0 (λ e. ⊎-elim (λ l. omega arith) (λ l. omega arith) away)
-      ∙ getD-set-other v1 (suc k) x (p .end) 0 (λ e. ⊎-elim (λ l. omega arith) (λ l. omega arith) away)
-      ∙ getD-set-other v k x (p .first) 0 (λ e. ⊎-elim (λ l. omega arith) (λ l. omega arith) away)
+      ∙ getD-set-other v1 (suc k) x (p .end .0) 0 (λ e. ⊎-elim (λ l. omega arith) (λ l. omega arith) away)
+      ∙ getD-set-other v k x (p .first .0) 0 (λ e. ⊎-elim (λ l. omega arith) (λ l. omega arith) away)
 
   module _ (fits : k + 3 < length v) where
-    put-first : getD (sets v k (pieceWords p)) k 0 ≡ p .first
+    put-first : getD (sets v k (pieceWords p)) k 0 ≡ p .first .0
     put-first =
-        let v1 : List ℕ = set v k (p .first) in
-        let v2 : List ℕ = set v1 (suc k) (p .end) in
+        let v1 : List ℕ = set v k (p .first .0) in
+        let v2 : List ℕ = set v1 (suc k) (p .end .0) in
         let v3 : List ℕ = set v2 (suc (suc k)) (p .region) in
-        getD-set-other v3 (suc (suc (suc k))) k (p .offset) 0 (λ e. omega arith)
+        getD-set-other v3 (suc (suc (suc k))) k (p .offset .0) 0 (λ e. omega arith)
         ∙ getD-set-other v2 (suc (suc k)) k (p .region) 0 (λ e. omega arith)
-        ∙ getD-set-other v1 (suc k) k (p .end) 0 (λ e. omega arith)
-        ∙ getD-set-same v k (p .first) 0 (omega arith)
+        ∙ getD-set-other v1 (suc k) k (p .end .0) 0 (λ e. omega arith)
+        ∙ getD-set-same v k (p .first .0) 0 (omega arith)
 
-    put-end : getD (sets v k (pieceWords p)) (suc k) 0 ≡ p .end
+    put-end : getD (sets v k (pieceWords p)) (suc k) 0 ≡ p .end .0
     put-end =
-        let v1 : List ℕ = set v k (p .first) in
-        let v2 : List ℕ = set v1 (suc k) (p .end) in
+        let v1 : List ℕ = set v k (p .first .0) in
+        let v2 : List ℕ = set v1 (suc k) (p .end .0) in
         let v3 : List ℕ = set v2 (suc (suc k)) (p .region) in
-        getD-set-other v3 (suc (suc (suc k))) (suc k) (p .offset) 0 (λ e. omega arith)
+        getD-set-other v3 (suc (suc (suc k))) (suc k) (p .offset .0) 0 (λ e. omega arith)
         ∙ getD-set-other v2 (suc (suc k)) (suc k) (p .region) 0 (λ e. omega arith)
-        ∙ getD-set-same v1 (suc k) (p .end) 0 (omega (arith, length-set v k (p .first)))
+        ∙ getD-set-same v1 (suc k) (p .end .0) 0 (omega (arith, length-set v k (p .first .0)))
 
     put-region : getD (sets v k (pieceWords p)) (suc (suc k)) 0 ≡ p .region
     put-region =
-        let v1 : List ℕ = set v k (p .first) in
-        let v2 : List ℕ = set v1 (suc k) (p .end) in
+        let v1 : List ℕ = set v k (p .first .0) in
+        let v2 : List ℕ = set v1 (suc k) (p .end .0) in
         let v3 : List ℕ = set v2 (suc (suc k)) (p .region) in
-        getD-set-other v3 (suc (suc (suc k))) (suc (suc k)) (p .offset) 0 (λ e. omega arith)
-        ∙ getD-set-same v2 (suc (suc k)) (p .region) 0 (omega (arith, length-set v k (p .first), length-set v1 (suc k) (p .end)))
+        getD-set-other v3 (suc (suc (suc k))) (suc (suc k)) (p .offset .0) 0 (λ e. omega arith)
+        ∙ getD-set-same v2 (suc (suc k)) (p .region) 0 (omega (arith, length-set v k (p .first .0), length-set v1 (suc k) (p .end .0)))
 
-    put-offset : getD (sets v k (pieceWords p)) (suc (suc (suc k))) 0 ≡ p .offset
+    put-offset : getD (sets v k (pieceWords p)) (suc (suc (suc k))) 0 ≡ p .offset .0
     put-offset =
-        let v1 : List ℕ = set v k (p .first) in
-        let v2 : List ℕ = set v1 (suc k) (p .end) in
+        let v1 : List ℕ = set v k (p .first .0) in
+        let v2 : List ℕ = set v1 (suc k) (p .end .0) in
         let v3 : List ℕ = set v2 (suc (suc k)) (p .region) in
-        getD-set-same v3 (suc (suc (suc k))) (p .offset) 0 (omega (arith, length-set v k (p .first), length-set v1 (suc k) (p .end), length-set v2 (suc (suc k)) (p .region)))
+        getD-set-same v3 (suc (suc (suc k))) (p .offset .0) 0 (omega (arith, length-set v k (p .first .0), length-set v1 (suc k) (p .end .0), length-set v2 (suc (suc k)) (p .region)))
 
 -- What pieces give.
 
@@ -199,10 +209,10 @@ pub record Placed (w : List ℕ) (i m h : ℕ) (p : Piece) (v : List ℕ) : Type
   pub horizon : horizonOf v ≡ h
   pub start : startOf v ≡ startOf w
   pub low : (j : ℕ) → j < i → Same v j w j
-  pub first : firstOf v i ≡ p .first
-  pub end : endOf v i ≡ p .end
+  pub first : firstOf v i ≡ p .first .0
+  pub end : endOf v i ≡ p .end .0
   pub region : regionOf v i ≡ p .region
-  pub offset : offsetOf v i ≡ p .offset
+  pub offset : offsetOf v i ≡ p .offset .0
   pub up : (j : ℕ) → i ≤ j → j < m → Same v (suc j) w j
 
 pub ready-room : (w v : List ℕ) (i n : ℕ) → length w ≡ 1027 → Moved w i n v → Ready w i n (horizonOf w) (set v 0 (n + 1))
@@ -276,11 +286,11 @@ record Good (v : List ℕ) (j : ℕ) : Type 0 where
   end : endOf v j ≤ 2 ^ 48
   region : regionOf v j < 32
 
-module _ (w : List ℕ) (i m h : ℕ) (p : Piece) (v : List ℕ) (t : Pieces w) (f : Fits w i p) (d : Placed w i m h p v) (im : i ≤ m) (few : m ≤ 255) (mc : m ≤ countOf w) (hw : h ≤ horizonOf w) (pf : p .first < h) (nearer : (j : ℕ) → j < m → firstOf w j < h) where
-  new-before : (j : ℕ) → i ≤ j → j < m → p .end ≤ firstOf w j
+module _ (w : List ℕ) (i m h : ℕ) (p : Piece) (v : List ℕ) (t : Pieces w) (f : Fits w i p) (d : Placed w i m h p v) (im : i ≤ m) (few : m ≤ 255) (mc : m ≤ countOf w) (hw : h ≤ horizonOf w) (pf : p .first .0 < h) (nearer : (j : ℕ) → j < m → firstOf w j < h) where
+  new-before : (j : ℕ) → i ≤ j → j < m → p .end .0 ≤ firstOf w j
   new-before j g l = ⊎-elim
       (λ lt. omega (arith, f .after (omega arith), t .order i (omega arith), t .apart i j lt (omega arith)))
-      (λ le. let e : i ≡ j = omega arith in subst (λ (x : ℕ). p .end ≤ firstOf w x) e (f .after (omega arith)))
+      (λ le. let e : i ≡ j = omega arith in subst (λ (x : ℕ). p .end .0 ≤ firstOf w x) e (f .after (omega arith)))
       (side i j)
 
   good-same : (j k : ℕ) → k < m → Same v j w k → Good v j
@@ -329,9 +339,9 @@ module _ (w : List ℕ) (i m h : ℕ) (p : Piece) (v : List ℕ) (t : Pieces w) 
     regions = λ j l. good j l .region;
   }
 
-  new-gives : (a : ℕ) → given v (m + 1) a ≡ orElse (given w m a) (window (itself (p .region)) (p .first) (p .offset) (p .end) a)
+  new-gives : (a : ℕ) → given v (m + 1) a ≡ orElse (given w m a) (window (itself (p .region)) (p .first .0) (p .offset .0) (p .end .0) a)
   new-gives a =
-      let x : Resolved = window (itself (p .region)) (p .first) (p .offset) (p .end) a in
+      let x : Resolved = window (itself (p .region)) (p .first .0) (p .offset .0) (p .end .0) a in
       let e : i + (m - i) ≡ m = omega arith in
       rw add-one
       (subst (λ (y : ℕ). given v (suc y) a ≡ orElse (given w y a) x) e
@@ -342,25 +352,25 @@ module _ (w : List ℕ) (i m h : ℕ) (p : Piece) (v : List ℕ) (t : Pieces w) 
       (λ j g l. same-gives a (d .up j g (omega arith)))
       (λ j g l. ⊎-elim
       (λ b. inl (window-before (itself (regionOf w j)) (firstOf w j) (offsetOf w j) (endOf w j) a (omega (arith, new-before j g (omega arith)))))
-      (λ b. inr (window-past (itself (p .region)) (p .first) (p .offset) (p .end) a b))
-      (side a (p .end)))))
+      (λ b. inr (window-past (itself (p .region)) (p .first .0) (p .offset .0) (p .end .0) a b))
+      (side a (p .end .0)))))
 
-  pub new-behind : ((a : ℕ) → a < h → shown w a ≡ given w m a) → Behind w (window (itself (p .region)) (p .first) (p .offset) (p .end)) v
+  pub new-behind : ((a : ℕ) → a < h → shown w a ≡ given w m a) → Behind w (window (itself (p .region)) (p .first .0) (p .offset .0) (p .end .0)) v
   new-behind beyond = record {
     kept = new-pieces;
     start = d .start;
     within = omega (arith, d .horizon);
     gives = λ a l.
         ap (λ (k : ℕ). given v k a) (d .count) ∙ new-gives a
-        ∙ ap (λ (y : Resolved). orElse y (window (itself (p .region)) (p .first) (p .offset) (p .end) a)) (sym (beyond a (omega (arith, d .horizon))));
+        ∙ ap (λ (y : Resolved). orElse y (window (itself (p .region)) (p .first .0) (p .offset .0) (p .end .0) a)) (sym (beyond a (omega (arith, d .horizon))));
   }
 
-  pub new-spot : Spot v (p .end) (i + 1)
+  pub new-spot : Spot v (p .end .0) (i + 1)
   new-spot = record {
     bound = omega (arith, d .count);
     before = λ j l. ⊎-elim
         (λ b. omega (arith, d .low j b .end, f .before j b, f .some))
-        (λ b. let e : i ≡ j = omega arith in subst (λ (x : ℕ). endOf v x ≤ p .end) e (omega (arith, d .end)))
+        (λ b. let e : i ≡ j = omega arith in subst (λ (x : ℕ). endOf v x ≤ p .end .0) e (omega (arith, d .end)))
         (side j i);
     after = λ l.
         let b : i < m = omega (arith, d .count) in
@@ -383,7 +393,7 @@ module _ (w : List ℕ) (i : ℕ) (p : Piece) (u v : List ℕ) (t : Pieces w) (f
   put-placed : (m h : ℕ) → Ready w i m h u → Placed w i m h p v
   put-placed m h r = subst (λ (x : List ℕ). Placed w i m h p x) (sym put) (placed w i m h p u (f .room) r)
 
-  pub insert-room : Ready w i (countOf w) (horizonOf w) u → (countOf w ≡ 256 → ⊥) → Behind w (window (itself (p .region)) (p .first) (p .offset) (p .end)) v × Spot v (p .end) (i + 1)
+  pub insert-room : Ready w i (countOf w) (horizonOf w) u → (countOf w ≡ 256 → ⊥) → Behind w (window (itself (p .region)) (p .first .0) (p .offset .0) (p .end .0)) v × Spot v (p .end .0) (i + 1)
   insert-room r some =
       let d = put-placed (countOf w) (horizonOf w) r in
       let few : countOf w ≤ 255 = omega (arith, t .few) in (
@@ -391,15 +401,15 @@ module _ (w : List ℕ) (i : ℕ) (p : Piece) (u v : List ℕ) (t : Pieces w) (f
         new-spot w i (countOf w) (horizonOf w) p v t f d (f .place) few (omega arith) (omega arith) (f .near) (t .near),
       )
 
-  pub insert-full : Ready w i 255 (getD w 1023 0) u → countOf w ≡ 256 → Behind w (window (itself (p .region)) (p .first) (p .offset) (p .end)) v × Spot v (p .end) (i + 1)
+  pub insert-full : Ready w i 255 (getD w 1023 0) u → countOf w ≡ 256 → Behind w (window (itself (p .region)) (p .first .0) (p .offset .0) (p .end .0)) v × Spot v (p .end .0) (i + 1)
   insert-full r full =
       let d = put-placed 255 (firstOf w 255) r in
       let im : i ≤ 255 = omega (arith, f .room) in
       let hw : firstOf w 255 ≤ horizonOf w = omega (arith, t .near 255 (omega arith)) in
       let nearer : (j : ℕ) → j < 255 → firstOf w j < firstOf w 255 = λ j l. omega (arith, t .order j (omega arith), t .apart j 255 l (omega arith)) in
-      let pf : p .first < firstOf w 255 = ⊎-elim
+      let pf : p .first .0 < firstOf w 255 = ⊎-elim
       (λ l. omega (arith, f .some, f .after (omega arith), nearer i l))
-      (λ g. let e : i ≡ 255 = omega arith in omega (arith, f .some, subst (λ (x : ℕ). p .end ≤ firstOf w x) e (f .after (omega arith))))
+      (λ g. let e : i ≡ 255 = omega arith in omega (arith, f .some, subst (λ (x : ℕ). p .end .0 ≤ firstOf w x) e (f .after (omega arith))))
       (side i 255) in (
         new-behind w i 255 (firstOf w 255) p v t f d im (omega arith) (omega arith) hw pf nearer (λ a l. ap (λ (k : ℕ). given w k a) full ∙ given-less w 255 a l),
         new-spot w i 255 (firstOf w 255) p v t f d im (omega arith) (omega arith) hw pf nearer,

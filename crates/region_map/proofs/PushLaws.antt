@@ -8,7 +8,7 @@ use lib.ListN.{length}
 use Rattle.region_map.specs.declared.resolve.Resolved.{Resolved}
 use Rattle.region_map.specs.declared.resolve.Resolved.the-variants.{Nothing, At}
 use Rattle.region_map.specs.declared.flat.Backing.{Backing}
-use Rattle.region_map.specs.declared.view.FlatRange.{FlatRange}
+use Rattle.map_records.specs.declared.view.FlatRange.{FlatRange}
 use Rattle.region_map.specs.FlatList.{Joined, joins, grown, after, push, inside, answerOf, lookup}
 use Rattle.region_map.specs.FlatList.{Entry, Follows, Chain, Longest}
 use Rattle.region_map.proofs.RangeTests.{Is, on, off, is, joins-on, on-joins, Place, within, before, beyond, place, inside-on, inside-before, inside-beyond}

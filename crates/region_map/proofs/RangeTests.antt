@@ -6,7 +6,7 @@ use native.Mathlib.Omega.{arith}
 use lib.Dec.{leb, eqb}
 use borrow.Author.Tests.{leb-true, leb-false, eqb-true, eqb-false, eq-eqb, le-leb, lt-leb}
 use Rattle.region_map.proofs.Bools.{and-fst, and-snd, and-off}
-use Rattle.region_map.specs.declared.view.FlatRange.{FlatRange}
+use Rattle.map_records.specs.declared.view.FlatRange.{FlatRange}
 use Rattle.region_map.specs.FlatList.{Joined, joins, inside}
 
 -- a Bool with its value

@@ -10,19 +10,19 @@ use native.Mathlib.Omega.{arith}
 use borrow.Author.Tests.{leb-true, leb-false, ltb-true, ltb-false}
 use lib.Dec.{leb, ltb}
 use lib.ListN.{length}
-use Rattle.region_map.specs.Map.{region}
+use Rattle.map_records.specs.Map.{region}
 use Rattle.region_map.specs.Walk.{ranked, orElse, answer, tried, walkBelow, walk, walkRoot}
 use Rattle.region_map.specs.Span.{shift, Walkable, NextChild}
 use Rattle.region_map.specs.FlatList.{extend, flat}
 use Rattle.region_map.specs.Flatten.{Grew}
 use Rattle.region_map.specs.Pieces.{countOf, horizonOf, startOf, firstOf, endOf, regionOf, offsetOf, window, itself, pieceGives, given, shown, Pieces, Behind, Whole}
-use Rattle.region_map.specs.declared.map.Region.{Region}
-use Rattle.region_map.specs.declared.map.RegionMap.{RegionMap}
+use Rattle.map_records.specs.declared.map.Region.{Region}
+use Rattle.map_records.specs.declared.map.RegionMap.{RegionMap}
 use Rattle.region_map.specs.declared.resolve.Resolved.{Resolved}
 use Rattle.region_map.specs.declared.resolve.Resolved.the-variants.{Nothing, At}
 use Rattle.region_map.specs.declared.flat.Backing.{Backing}
-use Rattle.region_map.specs.declared.flat.Pushed.{Pushed}
-use Rattle.region_map.specs.declared.view.FlatRange.{FlatRange}
+use Rattle.region_map.specs.Flatten.{Pushed}
+use Rattle.map_records.specs.declared.view.FlatRange.{FlatRange}
 use Rattle.region_map.proofs.WalkLaws.{past, child-at, child-before, walk-alias, walk-inside, own-is, own-none, tried-none, tried-next}
 use Rattle.region_map.proofs.WindowLaws.{window-in, window-before, window-past, or-nothing}
 use Rattle.region_map.proofs.Bools.{or-left, or-right}
@@ -338,7 +338,7 @@ module _ (backing : ℕ → Backing) (f : ℕ → Resolved) (w : List ℕ) (good
 
 -- The table of a sweep's turn.
 
-pub whole-root : (m : RegionMap) (w v : List ℕ) (at offset end : ℕ) → countOf w ≡ 0 → startOf w ≡ at → horizonOf w ≡ end → offset ≡ at
+whole-root : (m : RegionMap) (w v : List ℕ) (at offset end : ℕ) → countOf w ≡ 0 → startOf w ≡ at → horizonOf w ≡ end → offset ≡ at
     → Behind w (window (walk m (m .count - 1)) at offset end) v → Whole (walkRoot m) v
 unfolding walkRoot given
 whole-root m w v at offset end none start horizon same b = record {
@@ -348,3 +348,9 @@ whole-root m w v at offset end none start horizon same b = record {
       b .gives a k ∙ ap (λ (x : Resolved). orElse x (window (walk m (m .count - 1)) at offset end a)) empty
       ∙ window-in (walk m (m .count - 1)) at offset end a (omega (arith, b .start)) (omega (arith, b .within)) ∙ ap (walk m (m .count - 1)) z;
 }
+
+-- the same with the root's number as it was read
+pub whole-from : (m : RegionMap) (n : ℕ) → n ≡ m .count - 1 → (w v : List ℕ) (at offset end : ℕ) → countOf w ≡ 0 → startOf w ≡ at → horizonOf w ≡ end → offset ≡ at
+    → Behind w (window (walk m n) at offset end) v → Whole (walkRoot m) v
+whole-from m n e w v at offset end none start horizon same b =
+    whole-root m w v at offset end none start horizon same (subst (λ (k : ℕ). Behind w (window (walk m k) at offset end) v) e b)

@@ -6,7 +6,7 @@ use Rattle.region_map.specs.Reply.{Reply, passes}
 use Rattle.region_map.specs.Check.{judged, Accepted}
 use Rattle.region_map.specs.Walk.{walkRoot}
 use Rattle.region_map.specs.Resolve.{Led, refused, leads, resolved}
-use Rattle.region_map.specs.declared.map.RegionMap.{RegionMap}
+use Rattle.map_records.specs.declared.map.RegionMap.{RegionMap}
 use Rattle.region_map.specs.declared.resolve.Resolved.{Resolved}
 use Rattle.region_map.proofs.Replies.{refused-first}
 

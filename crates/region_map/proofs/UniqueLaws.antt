@@ -8,7 +8,7 @@ use native.Mathlib.Omega.{arith}
 use Rattle.region_map.specs.declared.resolve.Resolved.{Resolved}
 use Rattle.region_map.specs.declared.resolve.Resolved.the-variants.{Nothing, At}
 use Rattle.region_map.specs.declared.flat.Backing.{Backing}
-use Rattle.region_map.specs.declared.view.FlatRange.{FlatRange}
+use Rattle.map_records.specs.declared.view.FlatRange.{FlatRange}
 use Rattle.region_map.specs.FlatList.{Joined, inside, answerOf, lookup, Entry, Follows, Chain, Longest}
 use Rattle.region_map.proofs.RangeTests.{inside-on, inside-before, inside-beyond}
 

@@ -11,22 +11,18 @@ use lib.Dec.{ltb}
 use lib.ListN.{length, take, drop, replicate, set, getD, length-set, length-take, length-append, take-append-drop}
 use lib.Seq.{drop-set-lt, drop-drop, take-suc, take-suc-set, length-take-le}
 use borrow.Author.Tests.{lt-ltb, le-ltb, ltb-true}
-use Rattle.region_map.specs.declared.map.GuestAddress.{GuestAddress}
-use Rattle.region_map.specs.declared.map.RegionOffset.{RegionOffset}
+use Rattle.map_records.specs.declared.map.GuestAddress.{GuestAddress}
+use Rattle.map_records.specs.declared.map.RegionOffset.{RegionOffset}
 use Rattle.region_map.specs.declared.resolve.Resolved.{Resolved}
 use Rattle.region_map.specs.declared.resolve.Resolved.the-variants.{Nothing, At}
 use Rattle.region_map.specs.declared.flat.Backing.{Backing}
-use Rattle.region_map.specs.declared.view.FlatRange.{FlatRange}
-use Rattle.region_map.specs.declared.view.FlatView.{FlatView}
-use Rattle.region_map.specs.declared.flat.Pushed.{Pushed}
+use Rattle.map_records.specs.declared.view.FlatRange.{FlatRange}
+use Rattle.map_records.specs.declared.view.FlatView.{FlatView}
+use Rattle.region_map.specs.Flatten.{Pushed}
 use Rattle.region_map.specs.FlatList.{joins, grown, after, push, extend, flat, lookup}
 use Rattle.region_map.specs.Span.{shift}
-use Rattle.region_map.specs.Flatten.{entries, noRange, Blank, Grew, viewOf, Outcome, refusal, listed, flatList, flattened}
-use Rattle.region_map.specs.Reply.{Reply, accepted, nodes, place, plain, passes}
-use Rattle.region_map.specs.Check.{judged, Accepted}
-use Rattle.region_map.specs.declared.map.RegionMap.{RegionMap}
-use Rattle.region_map.proofs.Replies.{refused-first}
-use Rattle.region_map.proofs.Bools.{never}
+use Rattle.region_map.specs.Flatten.{Blank, Grew, viewHolding}
+use Rattle.map_records.specs.View.{entries, noRange}
 use Rattle.region_map.proofs.PushLaws.{after-on, after-off}
 use Rattle.region_map.proofs.FlatLaws.{flat-grows, sweep-step}
 
@@ -108,18 +104,12 @@ kept v h l e = record {
   list = λ _. e;
 }
 
--- a stretch that answers nothing, and one that is a run
-pub step-hole : (v : FlatView) → v .count ≤ 256 → (backing : ℕ → Backing) (n m : ℕ) (b : Resolved) → b ≡ Nothing
-    → Grew (extend backing (entries v) n m b) (record { full = false; view = v })
-unfolding extend
-step-hole v h backing n m b e = kept v h (extend backing (entries v) n m b) (rw e)
-
-pub step-leaf : (backing : ℕ → Backing) (l : List FlatRange) (n m : GuestAddress) (b : Resolved) (k : ℕ) (o : RegionOffset) (t : Backing) (p : Pushed)
-    → b ≡ At k o → t ≡ backing k
+-- a stretch that is a run
+pub step-leaf : (backing : ℕ → Backing) (l : List FlatRange) (n m : GuestAddress) (k : ℕ) (o : RegionOffset) (t : Backing) (p : Pushed) → t ≡ backing k
     → Grew (push l (record { first = n; last = m; region = k; offset = o; kind = t .kind; base = t .base })) p
-    → Grew (extend backing l (n .0) (m .0) b) p
+    → Grew (extend backing l (n .0) (m .0) (At k o)) p
 unfolding extend
-step-leaf backing l n m b k o t p e q g = rw (e, ← q) g
+step-leaf backing l n m k o t p q g = rw (← q) g
 
 -- a list that is full stays full
 pub still-full : (backing : ℕ → Backing) (f : ℕ → Resolved) (n m : ℕ) (p : Pushed) → n ≤ m → p .full ≡ true → Grew (flat backing f n) p → Grew (flat backing f m) p
@@ -156,39 +146,16 @@ blank-added v x b =
     rw (add-one (v .count)) (drop-set-lt (suc (v .count)) (v .ranges) (v .count) x (omega arith) ∙ rw z (drop-one (v .count) (256 - v .count) (v .ranges) noRange b))
 
 -- the empty list
-pub start : (backing : ℕ → Backing) (f : ℕ → Resolved) (v : FlatView) → v ≡ viewOf [] → (v .count ≤ 256) × (entries v ≡ flat backing f 0) × Blank v
-unfolding viewOf flat
+pub start : (backing : ℕ → Backing) (f : ℕ → Resolved) (v : FlatView) → v ≡ viewHolding [] → (v .count ≤ 256) × (entries v ≡ flat backing f 0) × Blank v
+unfolding viewHolding flat
 start backing f v e = rw e (omega arith, refl, refl)
 
 -- a view that is blank behind its entries is the view of its list
-pub whole-view : (v : FlatView) (l : List FlatRange) → v .count ≤ length (v .ranges) → entries v ≡ l → Blank v → v ≡ viewOf l
-unfolding viewOf
+pub whole-view : (v : FlatView) (l : List FlatRange) → v .count ≤ length (v .ranges) → entries v ≡ l → Blank v → v ≡ viewHolding l
+unfolding viewHolding
 whole-view v l h e b =
     let n : v .count ≡ length l = sym (length-take-le (v .count) (v .ranges) h) ∙ ap length e in
     let m : v .ranges ≡ l ++ replicate (256 - length l) noRange =
     sym (take-append-drop (v .count) (v .ranges)) ∙ ap {B = List FlatRange} (λ x. x ++ drop (v .count) (v .ranges)) e
     ∙ ap {B = List FlatRange} (λ x. l ++ x) (b ∙ ap {B = List FlatRange} (λ k. replicate (256 - k) noRange) n) in
     λ i. record { count = n i; ranges = m i }
-
--- the complete answer, from what the sweep says
-pub made-full : (l : List FlatRange) (q : Pushed) (v : FlatView) → Grew l q → q .full ≡ true → v ≡ viewOf [] → record { reply = plain 12; view = v } ≡ listed l
-unfolding listed
-made-full l q v g e h = let t : ltb 256 (length l) ≡ true = sym (g .full) ∙ e in rw (t, h)
-
-pub made-list : (l : List FlatRange) (q : Pushed) → Grew l q → q .full ≡ false → length (q .view .ranges) ≡ 256 → Blank (q .view)
-    → record { reply = accepted; view = q .view } ≡ listed l
-unfolding listed
-made-list l q g e w b =
-    let t : ltb 256 (length l) ≡ false = sym (g .full) ∙ e in
-    let p : q .view ≡ viewOf l = whole-view (q .view) l (omega (arith, g .room)) (g .list e) b in
-    rw (t, p)
-
--- and of the map's check
-pub flat-made : (m : RegionMap) (length : ℕ) (o : Outcome) → Accepted m length → o ≡ listed (flatList m) → o ≡ flattened m length
-unfolding flattened Accepted
-flat-made m length o ok e = rw (ok, e)
-
-pub flat-refused : (m : RegionMap) (length : ℕ) (r : Reply) (v : FlatView) → r ≡ judged m length → passes r ≡ false → v ≡ viewOf []
-    → record { reply = r; view = v } ≡ flattened m length
-unfolding flattened
-flat-refused m length r v e p h = rw h (refused-first refusal (listed (flatList m)) r (judged m length) e p)

@@ -8,13 +8,13 @@ use native.Mathlib.Decide.{decLt}
 use native.Mathlib.Omega.{arith}
 use lib.Dec.{eqb, leb, ltb}
 use borrow.Author.Tests.{eqb-true, leb-true, ltb-true, le-leb, lt-ltb}
-use Rattle.region_map.specs.Map.{container, alias, region}
+use Rattle.map_records.specs.Map.{container, alias, region}
 use Rattle.region_map.specs.Clash.{priorityOf}
 use Rattle.region_map.specs.Check.{Accepted}
 use Rattle.region_map.specs.Sound.{Sound}
 use Rattle.region_map.specs.Walk.{rank, child, ranked, orElse, holds, asked, own, answer, tried, walkBelow, walk}
-use Rattle.region_map.specs.declared.map.RegionMap.{RegionMap}
-use Rattle.region_map.specs.declared.map.RegionOffset.{RegionOffset}
+use Rattle.map_records.specs.declared.map.RegionMap.{RegionMap}
+use Rattle.map_records.specs.declared.map.RegionOffset.{RegionOffset}
 use Rattle.region_map.specs.declared.resolve.Resolved.{Resolved}
 use Rattle.region_map.specs.declared.resolve.Resolved.the-variants.{Nothing, At}
 use Rattle.region_map.proofs.Bools.{and-fst, and-snd}

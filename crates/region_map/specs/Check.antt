@@ -6,7 +6,7 @@ use lib.Dec.{eqb, ltb}
 use Rattle.region_map.specs.Reply.{Reply, accepted, nodes, place, _then_, lowest, firstPair}
 use Rattle.region_map.specs.Fault.{fault}
 use Rattle.region_map.specs.Clash.{clash}
-use Rattle.region_map.specs.declared.map.RegionMap.{RegionMap}
+use Rattle.map_records.specs.declared.map.RegionMap.{RegionMap}
 use Rattle.region_map.specs.declared.check.MapAnswer.{MapAnswer}
 use Rattle.region_map.specs.declared.check.MapAnswer.the-variants as answer
 use Rattle.region_map.specs.declared.fault.NodeRule.the-variants as node

@@ -2,10 +2,10 @@
 use mathlib.Core.Bool.{Bool, true, false, cond, _&&_, _||_, not}
 use Prim.Native.Nat.{ℕ, _+_, max}
 use lib.Dec.{eqb, ltb}
-use Rattle.region_map.specs.Map.{mmio, managed, region}
+use Rattle.map_records.specs.Map.{mmio, managed, region}
 use Rattle.region_map.specs.Fault.{backed}
-use Rattle.region_map.specs.declared.map.Region.{Region}
-use Rattle.region_map.specs.declared.map.RegionMap.{RegionMap}
+use Rattle.map_records.specs.declared.map.Region.{Region}
+use Rattle.map_records.specs.declared.map.RegionMap.{RegionMap}
 use Rattle.region_map.specs.declared.clash.PairRule.{PairRule}
 use Rattle.region_map.specs.declared.clash.PairRule.the-variants as rule
 

@@ -2,11 +2,11 @@
 use mathlib.Core.Bool.{Bool, true, false, _&&_, _||_, not}
 use Prim.Native.Nat.{ℕ, _+_, _-_, _^_}
 use lib.Dec.{eqb, leb, ltb}
-use Rattle.region_map.specs.Map.{container, ram, alias, managed, has, valueOf, region}
-use Rattle.region_map.specs.declared.map.Region.{Region}
-use Rattle.region_map.specs.declared.map.RegionMap.{RegionMap}
-use Rattle.region_map.specs.declared.map.Field.{Field}
-use Rattle.region_map.specs.declared.map.Field.the-variants.{MemoryStart, Port, Target, AliasOffset}
+use Rattle.map_records.specs.Map.{container, ram, alias, managed, has, valueOf, region}
+use Rattle.map_records.specs.declared.map.Region.{Region}
+use Rattle.map_records.specs.declared.map.RegionMap.{RegionMap}
+use Rattle.map_records.specs.declared.map.Field.{Field}
+use Rattle.map_records.specs.declared.map.Field.the-variants.{MemoryStart, Port, Target, AliasOffset}
 use Rattle.region_map.specs.declared.fault.NodeRule.{NodeRule}
 use Rattle.region_map.specs.declared.fault.NodeRule.the-variants as rule
 

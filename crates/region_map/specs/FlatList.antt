@@ -6,7 +6,7 @@ use Prim.Native.Nat.{ℕ, zero, suc, _+_, _-_, _≤_, _<_}
 use lib.Dec.{leb, eqb}
 use Rattle.region_map.specs.declared.resolve.Resolved.{Resolved}
 use Rattle.region_map.specs.declared.resolve.Resolved.the-variants.{Nothing, At}
-use Rattle.region_map.specs.declared.view.FlatRange.{FlatRange}
+use Rattle.map_records.specs.declared.view.FlatRange.{FlatRange}
 use Rattle.region_map.specs.declared.flat.Backing.{Backing}
 
 -- a range of region k, from its offset o on, with the region's values

@@ -5,19 +5,19 @@ use mathlib.Core.List.{List, [], _∷_, _++_}
 use Prim.Native.Nat.{ℕ, _+_, _-_, _≤_, _<_}
 use lib.Dec.{eqb, ltb}
 use lib.ListN.{length, take, drop, replicate}
-use Rattle.region_map.specs.Map.{mmio, region}
-use Rattle.region_map.specs.Reply.{Reply, accepted, plain, ifAccepted}
+use Rattle.map_records.specs.Map.{mmio, region}
+use Rattle.map_records.specs.View.{noRange, entries}
+use Rattle.map_records.specs.Words.{viewOf, viewWords}
+use Rattle.region_map.specs.Reply.{Reply, accepted, plain, ifAccepted, passes}
 use Rattle.region_map.specs.Check.{reply, judged}
 use Rattle.region_map.specs.Walk.{walkRoot}
 use Rattle.region_map.specs.FlatList.{flat, lookup, Longest}
-use Rattle.region_map.specs.declared.map.RegionMap.{RegionMap}
-use Rattle.region_map.specs.declared.view.FlatRange.{FlatRange}
-use Rattle.region_map.specs.declared.view.FlatView.{FlatView}
+use Rattle.map_records.specs.declared.map.RegionMap.{RegionMap}
+use Rattle.map_records.specs.declared.view.FlatRange.{FlatRange}
+use Rattle.map_records.specs.declared.view.FlatView.{FlatView}
 use Rattle.region_map.specs.declared.view.FlatAnswer.{FlatAnswer}
-use Rattle.region_map.specs.declared.view.FlatAnswer.the-variants.{Checked, TooMany}
-use Rattle.region_map.specs.declared.view.Flattened.{Flattened}
+use Rattle.region_map.specs.declared.view.FlatAnswer.the-variants.{Checked, TooMany, Record}
 use Rattle.region_map.specs.declared.flat.Backing.{Backing}
-use Rattle.region_map.specs.declared.flat.Pushed.{Pushed}
 
 -- 'its node's kind and memory start or port'
 abbrev pub backingOf : RegionMap → ℕ → Backing
@@ -31,15 +31,9 @@ rootSize m = region m (m .count - 1) .size
 unfoldable pub flatList : RegionMap → List FlatRange
 flatList m = flat (backingOf m) (walkRoot m) (rootSize m)
 
-abbrev pub noRange : FlatRange
-noRange = record { first = record { 0 = 0 }; last = record { 0 = 0 }; region = 0; offset = record { 0 = 0 }; kind = 0; base = 0 }
-
--- the list that a view holds, and the view of a list of at most 256: past the count all is zero
-abbrev pub entries : FlatView → List FlatRange
-entries v = take (v .count) (v .ranges)
-
-unfoldable pub viewOf : List FlatRange → FlatView
-viewOf l = record { count = length l; ranges = l ++ replicate (256 - length l) noRange }
+-- the view of a list of at most 256: past the count all is zero
+unfoldable pub viewHolding : List FlatRange → FlatView
+viewHolding l = record { count = length l; ranges = l ++ replicate (256 - length l) noRange }
 
 -- document 01's answer, and the view: the empty view with every refusal
 pub record Outcome : Type 0 where
@@ -47,24 +41,36 @@ pub record Outcome : Type 0 where
   pub view : FlatView
 
 abbrev pub refusal : Reply → Outcome
-refusal r = record { reply = r; view = viewOf [] }
+refusal r = record { reply = r; view = viewHolding [] }
 
 -- 12: 'more than 256 runs, from making the list alone'
 unfoldable pub listed : List FlatRange → Outcome
-listed l = cond (ltb 256 (length l)) (refusal (plain 12)) (record { reply = accepted; view = viewOf l })
+listed l = cond (ltb 256 (length l)) (refusal (plain 12)) (record { reply = accepted; view = viewHolding l })
 
 -- the given map m over a memory of `length` bytes: 3, 4 and 6 to 11 come first
 unfoldable pub flattened : RegionMap → ℕ → Outcome
 flattened m length = ifAccepted (judged m length) refusal (listed (flatList m))
 
+-- what making the view leaves in the lent words: all of it or, on a refusal, what was there; words that are not a view's are refused as a record is
+pub record Made : Type 0 where
+  pub reply : Reply
+  pub words : List ℕ
+
+abbrev pub laidInto : Outcome → List ℕ → Made
+laidInto o old = record { reply = o .reply; words = cond (passes (o .reply)) (viewWords (o .view)) old }
+
+abbrev pub isView : List ℕ → Bool
+isView w = eqb (length w) 1537
+
+unfoldable pub flattenedInto : RegionMap → ℕ → List ℕ → Made
+flattenedInto m length view =
+    cond (isView view) (laidInto (flattened m length) view) (record { reply = plain 27; words = view })
+
 -- document 01's number for each answer
 abbrev pub flatReply : FlatAnswer → Reply
 flatReply (Checked a) = reply a
 flatReply TooMany = plain 12
-
--- what making the view answers
-abbrev pub outcomeOf : Flattened → Outcome
-outcomeOf r = record { reply = flatReply (r .answer); view = r .view }
+flatReply Record = plain 27
 
 -- Demand 3, first half: at every address l gives what the walk from the root gives, it is a list of longest runs, and every such list with these answers is equal to it
 pub record FirstHalf (m : RegionMap) (l : List FlatRange) : Type 0 where
@@ -73,6 +79,16 @@ pub record FirstHalf (m : RegionMap) (l : List FlatRange) : Type 0 where
   pub only : (other : List FlatRange) → Longest (backingOf m) other → ((a : ℕ) → lookup other a ≡ walkRoot m a) → other ≡ l
 
 -- What the functions that make the view promise each other.
+
+-- words of a view that has room for its count
+pub record Viewed (w : List ℕ) : Type 0 where
+  pub words : length w ≡ 1537
+  pub few : viewOf w .count ≤ 256
+
+-- a view after ranges were put behind it, and whether it was full
+pub record Pushed : Type 0 where
+  pub full : Bool
+  pub view : FlatView
 
 -- p holds the list l, or says that it has no room
 pub record Grew (l : List FlatRange) (p : Pushed) : Type 0 where
@@ -83,3 +99,9 @@ pub record Grew (l : List FlatRange) (p : Pushed) : Type 0 where
 -- what stands behind the entries is zero
 abbrev pub Blank : FlatView → Type 0
 Blank v = drop (v .count) (v .ranges) ≡ replicate (256 - v .count) noRange
+
+-- the same of a view as words: from `before` to `after`
+pub record Grows (l : List FlatRange) (before : List ℕ) (full : Bool) (after : List ℕ) : Type 0 where
+  pub grew : Grew l (record { full = full; view = viewOf after })
+  pub blank : Blank (viewOf before) → Blank (viewOf after)
+  pub words : length after ≡ 1537

@@ -1,4 +1,3 @@
-pub mod Map
 pub mod Reply
 pub mod Fault
 pub mod Clash
@@ -6,7 +5,6 @@ pub mod Check
 pub mod Sound
 pub mod Walk
 pub mod Span
-pub mod Words
 pub mod Resolve
 pub mod FlatList
 pub mod Pieces

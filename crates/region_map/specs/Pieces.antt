@@ -79,7 +79,7 @@ pub record Spot (w : List ℕ) (a i : ℕ) : Type 0 where
   pub after : i < countOf w → a < endOf w i
 
 abbrev pub pieceWords : Piece → List ℕ
-pieceWords p = p .first ∷ p .end ∷ p .region ∷ p .offset ∷ []
+pieceWords p = p .first .0 ∷ p .end .0 ∷ p .region ∷ p .offset .0 ∷ []
 
 -- the words of pieces i to n moved up by one piece
 pub record Moved (w : List ℕ) (i n : ℕ) (v : List ℕ) : Type 0 where
@@ -91,13 +91,13 @@ pub record Moved (w : List ℕ) (i n : ℕ) (v : List ℕ) : Type 0 where
 pub record Fits (w : List ℕ) (i : ℕ) (p : Piece) : Type 0 where
   pub place : i ≤ countOf w
   pub room : i < 256
-  pub some : p .first < p .end
-  pub from : startOf w ≤ p .first
-  pub near : p .first < horizonOf w
-  pub far : p .end ≤ 2 ^ 48
+  pub some : p .first .0 < p .end .0
+  pub from : startOf w ≤ p .first .0
+  pub near : p .first .0 < horizonOf w
+  pub far : p .end .0 ≤ 2 ^ 48
   pub region : p .region < 32
-  pub before : (j : ℕ) → j < i → endOf w j ≤ p .first
-  pub after : i < countOf w → p .end ≤ firstOf w i
+  pub before : (j : ℕ) → j < i → endOf w j ≤ p .first .0
+  pub after : i < countOf w → p .end .0 ≤ firstOf w i
 
 -- the addresses from a up to r are free, and r is past them: the end, or where piece i begins
 pub record Free (w : List ℕ) (i a end r : ℕ) : Type 0 where
@@ -106,6 +106,16 @@ pub record Free (w : List ℕ) (i a end r : ℕ) : Type 0 where
   pub taken : r ≡ a → a < end → (i < countOf w) × (firstOf w i ≤ a)
   pub gap : a < r → i < countOf w → r ≤ firstOf w i
   pub whole : countOf w ≤ i → r ≡ end
+
+-- does piece i, which ends after the address, hold it?
+abbrev pub isTaken : List ℕ → ℕ → ℕ → Bool
+isTaken w i a = ltb i (countOf w) && leb (firstOf w i) a
+
+-- from the first address of piece i up to b, which lies past it and has the place j, all is taken: what is put behind does not show
+pub record Run (w : List ℕ) (i b j : ℕ) : Type 0 where
+  pub past : endOf w i ≤ b
+  pub spot : Spot w b j
+  pub taken : (x : ℕ) → firstOf w i ≤ x → x < b → (y : Resolved) → orElse (shown w x) y ≡ shown w x
 
 -- from its start up to its horizon a table shows what f gives
 pub record Whole (f : ℕ → Resolved) (w : List ℕ) : Type 0 where

@@ -3,7 +3,7 @@ use Prim.Native.Nat.{ℕ}
 use Rattle.region_map.specs.Reply.{Reply, ifAccepted}
 use Rattle.region_map.specs.Check.{reply, judged}
 use Rattle.region_map.specs.Walk.{walkRoot}
-use Rattle.region_map.specs.declared.map.RegionMap.{RegionMap}
+use Rattle.map_records.specs.declared.map.RegionMap.{RegionMap}
 use Rattle.region_map.specs.declared.resolve.Resolved.{Resolved}
 use Rattle.region_map.specs.declared.resolve.Resolution.{Resolution}
 use Rattle.region_map.specs.declared.resolve.Resolution.the-variants.{Refused, Answered}

@@ -2,12 +2,12 @@
 use mathlib.Core.Path.{_≡_}
 use mathlib.Core.Bool.{true, false}
 use Prim.Native.Nat.{ℕ, _+_, _-_, _≤_, _<_}
-use Rattle.region_map.specs.Map.{container, mmio, alias, managed, has, valueOf, region}
+use Rattle.map_records.specs.Map.{container, mmio, alias, managed, has, valueOf, region}
 use Rattle.region_map.specs.Fault.{limit, parentOf, backed}
 use Rattle.region_map.specs.Clash.{priorityOf}
-use Rattle.region_map.specs.declared.map.Region.{Region}
-use Rattle.region_map.specs.declared.map.RegionMap.{RegionMap}
-use Rattle.region_map.specs.declared.map.Field.{Field}
+use Rattle.map_records.specs.declared.map.Region.{Region}
+use Rattle.map_records.specs.declared.map.RegionMap.{RegionMap}
+use Rattle.map_records.specs.declared.map.Field.{Field}
 
 -- no number lies in [a, a + s) and in [b, b + t)
 abbrev pub Apart : ℕ → ℕ → ℕ → ℕ → Type 0

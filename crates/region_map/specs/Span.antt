@@ -1,10 +1,13 @@
 -- What the functions of the walk and of the flat view need of a map and of each other, and an answer some bytes on, of which the flat view's laws speak. No promise of an entry point cites these. Assumes nothing: these are definitions.
 use mathlib.Core.Path.{_≡_}
 use mathlib.Core.Bool.{true, false}
+use mathlib.Core.List.{List}
 use Prim.Native.Nat.{ℕ, _+_, _^_, _≤_, _<_}
-use Rattle.region_map.specs.Map.{alias, region}
+use lib.ListN.{length}
+use Rattle.map_records.specs.Map.{alias, region}
+use Rattle.map_records.specs.Words.{mapOf}
 use Rattle.region_map.specs.Walk.{ranked}
-use Rattle.region_map.specs.declared.map.RegionMap.{RegionMap}
+use Rattle.map_records.specs.declared.map.RegionMap.{RegionMap}
 use Rattle.region_map.specs.declared.resolve.Resolved.{Resolved}
 use Rattle.region_map.specs.declared.resolve.Resolved.the-variants.{Nothing, At}
 
@@ -31,3 +34,13 @@ pub record NextChild (m : RegionMap) (n b r : ℕ) : Type 0 where
 abbrev pub Indexed : Resolved → Type 0
 Indexed Nothing = Unit {0}
 Indexed (At n o) = n < 32
+
+-- words of a map whose count is one that a map can have
+pub record Counted (w : List ℕ) : Type 0 where
+  pub words : length w ≡ 289
+  pub few : mapOf w .count ≤ 32
+
+-- words of a map that can be gone through
+pub record Tree (w : List ℕ) : Type 0 where
+  pub words : length w ≡ 289
+  pub walkable : Walkable (mapOf w)

@@ -1,19 +1,11 @@
 -- Rule 27 for runs, as facts of a view over a map and a memory of `length` bytes: what the readers of a view rely on. Assumes nothing: these are definitions.
 use mathlib.Core.Path.{_≡_}
-use Prim.Native.Nat.{ℕ, _+_, _-_, _^_, _≤_, _<_}
-use lib.ListN.{getD}
-use Rattle.region_map.specs.Map.{ram, mmio, managed, region}
-use Rattle.region_map.specs.Flatten.{noRange}
-use Rattle.region_map.specs.declared.map.RegionMap.{RegionMap}
-use Rattle.region_map.specs.declared.view.FlatRange.{FlatRange}
-use Rattle.region_map.specs.declared.view.FlatView.{FlatView}
-
-abbrev pub rangeOf : FlatView → ℕ → FlatRange
-rangeOf v k = getD (v .ranges) k noRange
-
--- the offset at a range's last address
-abbrev pub lastOffset : FlatRange → ℕ
-lastOffset r = r .offset .0 + (r .last .0 - r .first .0)
+use Prim.Native.Nat.{ℕ, _+_, _^_, _≤_, _<_}
+use Rattle.map_records.specs.Map.{ram, mmio, managed, region}
+use Rattle.map_records.specs.View.{rangeOf, lastOffset}
+use Rattle.map_records.specs.declared.map.RegionMap.{RegionMap}
+use Rattle.map_records.specs.declared.view.FlatRange.{FlatRange}
+use Rattle.map_records.specs.declared.view.FlatView.{FlatView}
 
 -- one range: 'a kind not 1, 2 or 4, a node over 31, .. first over last, last or the offset there not below 2^48, a memory range past the lent memory, a managed part past the region'
 pub record LawfulRange (m : RegionMap) (length : ℕ) (r : FlatRange) : Type 0 where

@@ -1,15 +1,16 @@
 // The check of a given map.
 ghost use mathlib.Core.Path.{_≡_};
+ghost use Rattle.map_records.specs.Words.{mapOf};
 ghost use Rattle.region_map.specs.Check.{reply, judged};
 ghost use Rattle.region_map.specs.Reply.{numberOf, passes};
 use crate::clash::PairRule;
 use crate::fault::NodeRule;
-use crate::map::REGIONS;
-use crate::map::RegionMap;
 use crate::search::Lowest;
 use crate::search::Pair;
 use crate::search::first_pair;
 use crate::search::lowest_fault;
+use map_records::map::REGIONS;
+use map_records::words::region_count;
 
 // Accepted, or the refusal of document 01 with its nodes: 3, 4 and 6 to 11.
 pub enum MapAnswer {
@@ -24,11 +25,14 @@ pub enum MapAnswer {
     Overlap(usize, usize),
 }
 
-// Judges a map against the length of guest memory.
-pub fn check_map(map: RegionMap, memory_length: u64) -> MapAnswer
-    ensures { λ r. ⌜ reply r ≡ judged map «memory_length» ⌝ }
+// Judges a map against the length of guest memory. Words of another number than 289 are a map of no regions.
+pub fn check_map(map: &[u64], memory_length: u64) -> MapAnswer
+    ensures { λ r. ⌜ reply r ≡ judged (mapOf (now (map .entry))) «memory_length» ⌝ }
 {
-    let count = map.count;
+    if map.len() != 289 {
+        return MapAnswer::Count;
+    }
+    let count = region_count(map);
     if count == 0 {
         return MapAnswer::Count;
     }

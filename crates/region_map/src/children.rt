@@ -3,14 +3,15 @@ ghost use mathlib.Core.Path.{_≡_};
 ghost use Prim.Native.Nat.{_≤_, _<_};
 ghost use Rattle.region_map.specs.Walk.{rank as rankOf};
 ghost use Rattle.region_map.specs.Span.{NextChild};
-ghost use Rattle.region_map.specs.Words.{treeOf, Tree};
+ghost use Rattle.map_records.specs.Words.{mapOf};
+ghost use Rattle.region_map.specs.Span.{Tree};
 use crate::clash::priority_of;
-use crate::words::region_at;
+use map_records::words::region_at;
 
 // The place of region c among its parent's children: by priority, then by number.
 fn rank(map: &[u64], c: usize) -> usize
-    requires { ⌜ Tree (now map) × (c < treeOf (now map) .count) ⌝ }
-    ensures { λ r. ⌜ r ≡ rankOf (treeOf (now (map .entry))) c ⌝ }
+    requires { ⌜ Tree (now map) × (c < mapOf (now map) .count) ⌝ }
+    ensures { λ r. ⌜ r ≡ rankOf (mapOf (now (map .entry))) c ⌝ }
 {
     let region = region_at(map, c);
     (priority_of(region) as usize) * 32 + c
@@ -18,8 +19,8 @@ fn rank(map: &[u64], c: usize) -> usize
 
 // One more than the highest rank below `below` of a child of n, or 0.
 pub fn next_child(map: &[u64], n: usize, below: usize) -> usize
-    requires { ⌜ Tree (now map) × (n < treeOf (now map) .count) × (below ≤ 8192) ⌝ }
-    ensures { λ r. ⌜ NextChild (treeOf (now (map .entry))) n below r ⌝ }
+    requires { ⌜ Tree (now map) × (n < mapOf (now map) .count) × (below ≤ 8192) ⌝ }
+    ensures { λ r. ⌜ NextChild (mapOf (now (map .entry))) n below r ⌝ }
 {
     let mut best: usize = 0;
     for c in 0..n {

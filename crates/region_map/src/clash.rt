@@ -1,12 +1,14 @@
 // The rules of document 01 over two regions.
 ghost use mathlib.Core.Path.{_≡_};
 ghost use Prim.Native.Nat.{_≤_, _<_};
+ghost use Rattle.map_records.specs.Words.{mapOf};
+ghost use lib.ListN.{length};
 ghost use Rattle.region_map.specs.Clash.{share as shareOf, priorityOf, memoryClash, managedClash, portClash, siblings as siblingsOf, siblingClash, clash};
-use crate::map::MANAGED;
-use crate::map::MMIO;
-use crate::map::RAM;
-use crate::map::Region;
-use crate::map::RegionMap;
+use map_records::map::MANAGED;
+use map_records::map::MMIO;
+use map_records::map::RAM;
+use map_records::map::Region;
+use map_records::words::region_at;
 
 // The rules that are searched for over all pairs: 8's shared byte, 9, 10 and 11.
 pub enum PairRule {
@@ -59,22 +61,22 @@ fn siblings(a: Region, b: Region) -> bool
     !(a.parent == 0) & (a.parent == b.parent)
 }
 
-fn sibling_clash(map: RegionMap, i: usize, j: usize) -> bool
-    requires { ⌜ (i < 32) × (j < 32) ⌝ }
-    ensures { λ r. ⌜ r ≡ siblingClash map i j ⌝ }
+fn sibling_clash(map: &[u64], i: usize, j: usize) -> bool
+    requires { ⌜ (length (now map) ≡ 289) × (i < 32) × (j < 32) ⌝ }
+    ensures { λ r. ⌜ r ≡ siblingClash (mapOf (now (map .entry))) i j ⌝ }
 {
-    let a = map.regions[i];
-    let b = map.regions[j];
+    let a = region_at(map, i);
+    let b = region_at(map, j);
     siblings(a, b) & (priority_of(a) == priority_of(b)) & share(a.offset, a.size, b.offset, b.size)
 }
 
 // Do regions i and j clash by the rule?
-pub fn clashes(map: RegionMap, rule: PairRule, i: usize, j: usize) -> bool
-    requires { ⌜ (i < 32) × (j < 32) ⌝ }
-    ensures { λ r. ⌜ r ≡ clash rule map i j ⌝ }
+pub fn clashes(map: &[u64], rule: PairRule, i: usize, j: usize) -> bool
+    requires { ⌜ (length (now map) ≡ 289) × (i < 32) × (j < 32) ⌝ }
+    ensures { λ r. ⌜ r ≡ clash rule (mapOf (now (map .entry))) i j ⌝ }
 {
-    let a = map.regions[i];
-    let b = map.regions[j];
+    let a = region_at(map, i);
+    let b = region_at(map, j);
     match rule {
         PairRule::Memory => memory_clash(a, b),
         PairRule::Managed => managed_clash(a, b),

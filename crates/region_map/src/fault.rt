@@ -2,16 +2,19 @@
 ghost use mathlib.Core.Path.{_≡_};
 ghost use Prim.Native.Nat.{_≤_, _<_, _+_};
 ghost use lib.Dec.{ltb};
-ghost use Rattle.region_map.specs.Map.{region};
+ghost use Rattle.map_records.specs.Words.{mapOf};
+ghost use Rattle.region_map.specs.Span.{Counted};
+ghost use Rattle.map_records.specs.Map.{region};
 ghost use Rattle.region_map.specs.Fault.{extra as extraOf, fieldFault, parentFault, targetFault, rootFault, linkFault, memoryFault, fault};
-use crate::map::ALIAS;
-use crate::map::CONTAINER;
-use crate::map::Field;
-use crate::map::MANAGED;
-use crate::map::RAM;
-use crate::map::Region;
-use crate::map::RegionMap;
-use crate::map::has;
+use map_records::map::ALIAS;
+use map_records::map::CONTAINER;
+use map_records::map::Field;
+use map_records::map::MANAGED;
+use map_records::map::RAM;
+use map_records::map::Region;
+use map_records::map::has;
+use map_records::words::region_at;
+use map_records::words::region_count;
 
 // The largest offset and size, 2^48.
 const LIMIT: u64 = 281474976710656;
@@ -45,11 +48,12 @@ fn field_fault(r: Region) -> bool
     large | range | more
 }
 
-fn parent_fault(map: RegionMap, n: usize) -> bool
-    requires { ⌜ (map .count ≤ 32) × (n < map .count) ⌝ }
-    ensures { λ b. ⌜ b ≡ parentFault map n ⌝ }
+fn parent_fault(map: &[u64], n: usize) -> bool
+    requires { ⌜ Counted (now map) × (n < mapOf (now map) .count) ⌝ }
+    ensures { λ b. ⌜ b ≡ parentFault (mapOf (now (map .entry))) n ⌝ }
 {
-    let field = map.regions[n].parent;
+    let region = region_at(map, n);
+    let field = region.parent;
     if field == 0 {
         return false;
     }
@@ -57,10 +61,12 @@ fn parent_fault(map: RegionMap, n: usize) -> bool
     if parent <= n {
         return true;
     }
-    if map.count <= parent {
+    let count = region_count(map);
+    if count <= parent {
         return true;
     }
-    let kind = map.regions[parent].kind;
+    let above = region_at(map, parent);
+    let kind = above.kind;
     (kind == ALIAS) | (kind == MANAGED)
 }
 
@@ -76,12 +82,13 @@ fn root_fault(r: Region) -> bool
     !(r.kind == CONTAINER) | !(r.parent == 0) | !(r.offset == 0)
 }
 
-fn link_fault(map: RegionMap, n: usize) -> bool
-    requires { ⌜ (map .count ≤ 32) × (n < map .count) ⌝ }
-    ensures { λ b. ⌜ b ≡ linkFault map n ⌝ }
+fn link_fault(map: &[u64], n: usize) -> bool
+    requires { ⌜ Counted (now map) × (n < mapOf (now map) .count) ⌝ }
+    ensures { λ b. ⌜ b ≡ linkFault (mapOf (now (map .entry))) n ⌝ }
 {
-    let r = map.regions[n];
-    let last = n + 1 == map.count;
+    let r = region_at(map, n);
+    let count = region_count(map);
+    let last = n + 1 == count;
     parent_fault(map, n) | target_fault(r, n) | (last & root_fault(r))
 }
 
@@ -103,11 +110,11 @@ fn memory_fault(memory_length: u64, r: Region) -> bool
 }
 
 // Is region n at fault by the rule?
-pub fn at_fault(map: RegionMap, memory_length: u64, rule: NodeRule, n: usize) -> bool
-    requires { ⌜ (map .count ≤ 32) × (n < map .count) ⌝ }
-    ensures { λ b. ⌜ b ≡ fault rule map «memory_length» n ⌝ }
+pub fn at_fault(map: &[u64], memory_length: u64, rule: NodeRule, n: usize) -> bool
+    requires { ⌜ Counted (now map) × (n < mapOf (now map) .count) ⌝ }
+    ensures { λ b. ⌜ b ≡ fault rule (mapOf (now (map .entry))) «memory_length» n ⌝ }
 {
-    let r = map.regions[n];
+    let r = region_at(map, n);
     match rule {
         NodeRule::Kind => MANAGED < r.kind,
         NodeRule::Field => field_fault(r),

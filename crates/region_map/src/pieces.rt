@@ -5,9 +5,9 @@ ghost use mathlib.Core.Path.{_≡_};
 ghost use Prim.Native.Nat.{_+_, _*_, _^_, _≤_, _<_};
 ghost use lib.ListN.{length};
 ghost use lib.Seq.{sets};
-ghost use Rattle.region_map.specs.Pieces.{pieceWords, countOf, horizonOf, startOf, firstOf, endOf, regionOf, offsetOf, window, itself, Pieces, Behind, Spot, Moved, Fits, Free};
-use crate::map::GuestAddress;
-use crate::map::RegionOffset;
+ghost use Rattle.region_map.specs.Pieces.{pieceWords, countOf, horizonOf, startOf, firstOf, endOf, regionOf, offsetOf, window, itself, Pieces, Behind, Spot, Moved, Fits, Free, isTaken, Run};
+use map_records::map::GuestAddress;
+use map_records::map::RegionOffset;
 
 // A table's words: the count, the horizon, the start, and four for each piece.
 pub const WORDS: usize = 1027;
@@ -16,10 +16,10 @@ const PIECES: u64 = 256;
 
 // The addresses from first up to end, which is not one of them, lead to a region from an offset on.
 pub struct Piece {
-    pub first: u64,
-    pub end: u64,
+    pub first: GuestAddress,
+    pub end: GuestAddress,
     pub region: usize,
-    pub offset: u64,
+    pub offset: RegionOffset,
 }
 
 pub fn least(a: u64, b: u64) -> u64
@@ -40,14 +40,14 @@ pub fn begin(table: &mut [u64], start: GuestAddress, end: GuestAddress)
 
 pub fn piece_at(table: &[u64], i: usize) -> Piece
     requires { ⌜ (length (now table) ≡ 1027) × (i < 256) ⌝ }
-    ensures { λ r. ⌜ (r .first ≡ firstOf (now (table .entry)) i) × (r .end ≡ endOf (now (table .entry)) i) × (r .region ≡ regionOf (now (table .entry)) i) × (r .offset ≡ offsetOf (now (table .entry)) i) ⌝ }
+    ensures { λ r. ⌜ (r .first .0 ≡ firstOf (now (table .entry)) i) × (r .end .0 ≡ endOf (now (table .entry)) i) × (r .region ≡ regionOf (now (table .entry)) i) × (r .offset .0 ≡ offsetOf (now (table .entry)) i) ⌝ }
 {
     let at = 3 + 4 * i;
     Piece {
-        first: table[at],
-        end: table[at + 1],
+        first: GuestAddress(table[at]),
+        end: GuestAddress(table[at + 1]),
         region: table[at + 2] as usize,
-        offset: table[at + 3],
+        offset: RegionOffset(table[at + 3]),
     }
 }
 
@@ -56,22 +56,22 @@ fn put_piece(table: &mut [u64], i: usize, piece: Piece)
     ensures { λ _. ⌜ now (table .exit) ≡ sets (now (table .entry)) (3 + 4 * i) (pieceWords piece) ⌝ }
 {
     let at = 3 + 4 * i;
-    table[at] = piece.first;
-    table[at + 1] = piece.end;
+    table[at] = piece.first.0;
+    table[at + 1] = piece.end.0;
     table[at + 2] = piece.region as u64;
-    table[at + 3] = piece.offset;
+    table[at + 3] = piece.offset.0;
 }
 
-// Pieces i up to n move up by one.
+// Pieces i up to n move up by one, the last first.
 fn shift(table: &mut [u64], i: usize, n: usize)
     requires { ⌜ (length (now table) ≡ 1027) × (i ≤ n) × (n ≤ 255) ⌝ }
     ensures { λ _. ⌜ Moved (now (table .entry)) i n (now (table .exit)) ⌝ }
 {
-    let low = 3 + 4 * i;
-    let mut k = 3 + 4 * n;
-    while low < k {
+    let mut k = n;
+    while i < k {
         k -= 1;
-        table[k + 4] = table[k];
+        let piece = piece_at(table, k);
+        put_piece(table, k + 1, piece);
     }
 }
 
@@ -79,7 +79,7 @@ fn shift(table: &mut [u64], i: usize, n: usize)
 fn insert(table: &mut [u64], i: usize, piece: Piece)
     requires { ⌜ Pieces (now table) ⌝ }
     requires { ⌜ Fits (now table) i piece ⌝ }
-    ensures { λ _. ⌜ Behind (now (table .entry)) (window (itself (piece .region)) (piece .first) (piece .offset) (piece .end)) (now (table .exit)) × Spot (now (table .exit)) (piece .end) (i + 1) ⌝ }
+    ensures { λ _. ⌜ Behind (now (table .entry)) (window (itself (piece .region)) (piece .first .0) (piece .offset .0) (piece .end .0)) (now (table .exit)) × Spot (now (table .exit)) (piece .end .0) (i + 1) ⌝ }
 {
     let count = table[0];
     if count == PIECES {
@@ -102,7 +102,7 @@ fn spot(table: &[u64], a: u64) -> usize
     while low < high {
         let middle = low + (high - low) / 2;
         let p = piece_at(table, middle);
-        if p.end <= a {
+        if p.end.0 <= a {
             low = middle + 1;
         } else {
             high = middle;
@@ -119,12 +119,50 @@ fn free_until(table: &[u64], i: usize, a: u64, end: u64) -> u64
 {
     if (i as u64) < table[0] {
         let p = piece_at(table, i);
-        if p.first <= a {
+        if p.first.0 <= a {
             return a;
         }
-        return least(p.first, end);
+        return least(p.first.0, end);
     }
     end
+}
+
+// Is an address taken by piece i, where i is the address's place?
+fn is_taken(table: &[u64], i: usize, a: u64) -> bool
+    requires { ⌜ Pieces (now table) ⌝ }
+    ensures { λ r. ⌜ r ≡ isTaken (now (table .entry)) i a ⌝ }
+{
+    if (i as u64) < table[0] {
+        let p = piece_at(table, i);
+        return p.first.0 <= a;
+    }
+    false
+}
+
+// The address that a walk over pieces came to, and its place.
+struct Skipped {
+    at: usize,
+    address: u64,
+}
+
+// Over piece i and the pieces that follow it without a gap, as far as `end`. Half of the work on the worst maps
+// known is done here, so the loop stands by itself and reads two words a turn.
+fn skip(table: &[u64], i: usize, end: u64) -> Skipped
+    requires { ⌜ Pieces (now table) × (i < countOf (now table)) ⌝ }
+    ensures { λ r. ⌜ Run (now (table .entry)) i (r .address) (r .at) ⌝ }
+{
+    let here = piece_at(table, i);
+    let mut at = i + 1;
+    let mut address = here.end.0;
+    while (address < end) & is_taken(table, at, address) {
+        let next = piece_at(table, at);
+        address = next.end.0;
+        at += 1;
+    }
+    Skipped {
+        at: at,
+        address: address,
+    }
 }
 
 // A region, from an offset on, at the addresses of a window that are free.
@@ -147,25 +185,25 @@ pub fn fill(
         }
         let stop = free_until(table, i, a, end.0);
         if stop == a {
-            let p = piece_at(table, i);
-            a = p.end;
+            let past = skip(table, i, end.0);
+            a = past.address;
+            i = past.at;
         } else {
             if i == 256 {
                 table[1] = a;
                 return;
             }
-            insert(
-                table,
-                i,
-                Piece {
-                    first: a,
-                    end: stop,
-                    region: region,
-                    offset: offset.0 + (a - first.0),
-                },
-            );
+            let gone = a - first.0;
+            let there = offset.0 + gone;
+            let piece = Piece {
+                first: GuestAddress(a),
+                end: GuestAddress(stop),
+                region: region,
+                offset: RegionOffset(there),
+            };
+            insert(table, i, piece);
             a = stop;
+            i += 1;
         }
-        i += 1;
     }
 }

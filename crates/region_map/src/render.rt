@@ -3,16 +3,17 @@
 ghost use mathlib.Core.Path.{_≡_};
 ghost use Prim.Native.Nat.{_+_, _^_, _≤_, _<_};
 ghost use Rattle.region_map.specs.Walk.{walk as walkOf, tried, walkBelow};
-ghost use Rattle.region_map.specs.Words.{treeOf, Tree};
+ghost use Rattle.map_records.specs.Words.{mapOf};
+ghost use Rattle.region_map.specs.Span.{Tree};
 ghost use Rattle.region_map.specs.Pieces.{startOf, window, Pieces, Behind};
 use crate::children::next_child;
-use crate::map::ALIAS;
-use crate::map::CONTAINER;
-use crate::map::GuestAddress;
-use crate::map::RegionOffset;
 use crate::pieces::fill;
 use crate::pieces::least;
-use crate::words::region_at;
+use map_records::map::ALIAS;
+use map_records::map::CONTAINER;
+use map_records::map::GuestAddress;
+use map_records::map::RegionOffset;
+use map_records::words::region_at;
 
 // More than every rank of a child.
 const RANKS: usize = 8192;
@@ -26,10 +27,10 @@ pub fn render(
     offset: RegionOffset,
     end: GuestAddress,
 )
-    requires { ⌜ Tree (now map) × (n < treeOf (now map) .count) ⌝ }
+    requires { ⌜ Tree (now map) × (n < mapOf (now map) .count) ⌝ }
     requires { ⌜ Pieces (now table) ⌝ }
     requires { ⌜ (startOf (now table) ≤ first .0) × (end .0 ≤ 2 ^ 48) × (offset .0 ≤ 2 ^ 49) ⌝ }
-    ensures { λ _. ⌜ Behind (now (table .entry)) (window (walkOf (treeOf (now (map .entry))) n) (first .0) (offset .0) (end .0)) (now (table .exit)) ⌝ }
+    ensures { λ _. ⌜ Behind (now (table .entry)) (window (walkOf (mapOf (now (map .entry))) n) (first .0) (offset .0) (end .0)) (now (table .exit)) ⌝ }
 {
     let region = region_at(map, n);
     let size = region.size;
@@ -64,10 +65,10 @@ fn render_children(
     end: GuestAddress,
     below: usize,
 )
-    requires { ⌜ Tree (now map) × (n < treeOf (now map) .count) × (below ≤ 8192) ⌝ }
+    requires { ⌜ Tree (now map) × (n < mapOf (now map) .count) × (below ≤ 8192) ⌝ }
     requires { ⌜ Pieces (now table) ⌝ }
     requires { ⌜ (startOf (now table) ≤ first .0) × (first .0 ≤ end .0) × (end .0 ≤ 2 ^ 48) × (offset .0 ≤ 2 ^ 48) ⌝ }
-    ensures { λ _. ⌜ Behind (now (table .entry)) (window (tried (treeOf (now (map .entry))) (walkBelow (treeOf (now (map .entry))) n) n below) (first .0) (offset .0) (end .0)) (now (table .exit)) ⌝ }
+    ensures { λ _. ⌜ Behind (now (table .entry)) (window (tried (mapOf (now (map .entry))) (walkBelow (mapOf (now (map .entry))) n) n below) (first .0) (offset .0) (end .0)) (now (table .exit)) ⌝ }
 {
     let next = next_child(map, n, below);
     if next == 0 {

@@ -1,14 +1,14 @@
 // The walk of a given map at a guest address.
 ghost use mathlib.Core.Path.{_≡_};
+ghost use Rattle.map_records.specs.Words.{mapOf};
 ghost use Rattle.region_map.specs.Resolve.{resolved, ledBy};
 use crate::check::MapAnswer;
 use crate::check::accepts;
 use crate::check::check_map;
-use crate::map::GuestAddress;
-use crate::map::RegionMap;
-use crate::map::RegionOffset;
 use crate::walk::walk;
-use crate::words::words_of;
+use map_records::map::GuestAddress;
+use map_records::map::RegionOffset;
+use map_records::words::region_count;
 
 // What the tree answers at an address: nothing, or a region with the offset inside it.
 pub enum Resolved {
@@ -30,14 +30,13 @@ pub fn root_offset(address: GuestAddress) -> RegionOffset
 }
 
 // The region that a guest address leads to, in a map that is judged first.
-pub fn resolve_address(map: RegionMap, memory_length: u64, address: GuestAddress) -> Resolution
-    ensures { λ r. ⌜ ledBy r ≡ resolved map «memory_length» (address .0) ⌝ }
+pub fn resolve_address(map: &[u64], memory_length: u64, address: GuestAddress) -> Resolution
+    ensures { λ r. ⌜ ledBy r ≡ resolved (mapOf (now (map .entry))) «memory_length» (address .0) ⌝ }
 {
     let answer = check_map(map, memory_length);
     if accepts(answer) {
-        let root = map.count - 1;
-        let words = words_of(map);
-        let led = walk(&words, root, root_offset(address));
+        let root = region_count(map) - 1;
+        let led = walk(map, root, root_offset(address));
         return Resolution::Answered(led);
     }
     Resolution::Refused(answer)

@@ -1,6 +1,7 @@
 // The searches over regions and over pairs of them.
 ghost use mathlib.Core.Path.{_≡_};
-ghost use Prim.Native.Nat.{_≤_, _<_};
+ghost use Rattle.map_records.specs.Words.{mapOf};
+ghost use Rattle.region_map.specs.Span.{Counted};
 ghost use Rattle.region_map.specs.Fault.{fault};
 ghost use Rattle.region_map.specs.Clash.{clash};
 ghost use Rattle.region_map.specs.Check.{LowestIs, FirstIs};
@@ -8,7 +9,7 @@ use crate::clash::PairRule;
 use crate::clash::clashes;
 use crate::fault::NodeRule;
 use crate::fault::at_fault;
-use crate::map::RegionMap;
+use map_records::words::region_count;
 
 pub enum Lowest {
     Node(usize),
@@ -21,11 +22,11 @@ pub enum Pair {
 }
 
 // The lowest region at fault by the rule.
-pub fn lowest_fault(map: RegionMap, memory_length: u64, rule: NodeRule) -> Lowest
-    requires { ⌜ map .count ≤ 32 ⌝ }
-    ensures { λ r. ⌜ LowestIs (fault rule map «memory_length») (map .count) r ⌝ }
+pub fn lowest_fault(map: &[u64], memory_length: u64, rule: NodeRule) -> Lowest
+    requires { ⌜ Counted (now map) ⌝ }
+    ensures { λ r. ⌜ LowestIs (fault rule (mapOf (now (map .entry))) «memory_length») (mapOf (now (map .entry)) .count) r ⌝ }
 {
-    let count = map.count;
+    let count = region_count(map);
     for n in 0..count {
         if at_fault(map, memory_length, rule, n) {
             return Lowest::Node(n);
@@ -35,11 +36,11 @@ pub fn lowest_fault(map: RegionMap, memory_length: u64, rule: NodeRule) -> Lowes
 }
 
 // The first pair that clashes by the rule, in ascending order, lower number first.
-pub fn first_pair(map: RegionMap, rule: PairRule) -> Pair
-    requires { ⌜ map .count ≤ 32 ⌝ }
-    ensures { λ r. ⌜ FirstIs (clash rule map) (map .count) r ⌝ }
+pub fn first_pair(map: &[u64], rule: PairRule) -> Pair
+    requires { ⌜ Counted (now map) ⌝ }
+    ensures { λ r. ⌜ FirstIs (clash rule (mapOf (now (map .entry)))) (mapOf (now (map .entry)) .count) r ⌝ }
 {
-    let count = map.count;
+    let count = region_count(map);
     let mut found = Pair::Nothing;
     'search: for i in 0..count {
         for j in i + 1..count {

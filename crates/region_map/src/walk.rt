@@ -3,21 +3,22 @@
 ghost use mathlib.Core.Path.{_≡_};
 ghost use Prim.Native.Nat.{_≤_, _<_};
 ghost use Rattle.region_map.specs.Walk.{walk as walkOf, tried, walkBelow};
-ghost use Rattle.region_map.specs.Words.{treeOf, Tree};
+ghost use Rattle.map_records.specs.Words.{mapOf};
+ghost use Rattle.region_map.specs.Span.{Tree};
 use crate::children::next_child;
-use crate::map::ALIAS;
-use crate::map::CONTAINER;
-use crate::map::RegionOffset;
 use crate::resolve::Resolved;
-use crate::words::region_at;
+use map_records::map::ALIAS;
+use map_records::map::CONTAINER;
+use map_records::map::RegionOffset;
+use map_records::words::region_at;
 
 // More than every rank of a child.
 const RANKS: usize = 8192;
 
 // Region n at an offset inside it.
 pub fn walk(map: &[u64], n: usize, at: RegionOffset) -> Resolved
-    requires { ⌜ Tree (now map) × (n < treeOf (now map) .count) ⌝ }
-    ensures { λ r. ⌜ r ≡ walkOf (treeOf (now (map .entry))) n (at .0) ⌝ }
+    requires { ⌜ Tree (now map) × (n < mapOf (now map) .count) ⌝ }
+    ensures { λ r. ⌜ r ≡ walkOf (mapOf (now (map .entry))) n (at .0) ⌝ }
 {
     let a = at.0;
     let region = region_at(map, n);
@@ -32,8 +33,8 @@ pub fn walk(map: &[u64], n: usize, at: RegionOffset) -> Resolved
 
 // The children of n whose ranks are below `below`, highest first, and then n itself.
 fn walk_children(map: &[u64], n: usize, at: RegionOffset, below: usize) -> Resolved
-    requires { ⌜ Tree (now map) × (n < treeOf (now map) .count) × (below ≤ 8192) ⌝ }
-    ensures { λ r. ⌜ r ≡ tried (treeOf (now (map .entry))) (walkBelow (treeOf (now (map .entry))) n) n below (at .0) ⌝ }
+    requires { ⌜ Tree (now map) × (n < mapOf (now map) .count) × (below ≤ 8192) ⌝ }
+    ensures { λ r. ⌜ r ≡ tried (mapOf (now (map .entry))) (walkBelow (mapOf (now (map .entry))) n) n below (at .0) ⌝ }
 {
     let next = next_child(map, n, below);
     if next == 0 {

@@ -10,13 +10,13 @@ use Rattle.region_map.specs.declared.check.MapAnswer.the-variants as map
 use Rattle.region_map.proofs.Answers.{answerOf, reply-back}
 use Rattle.sheet.specs.Answer.{sheetReply}
 use Rattle.sheet.specs.declared.answer.SheetAnswer.{SheetAnswer}
-use Rattle.sheet.specs.declared.answer.SheetAnswer.the-variants.{Short, Number, Count, Kind, Tail, Checked}
+use Rattle.sheet.specs.declared.answer.SheetAnswer.the-variants.{Short, Number, Count, Kind, Tail, Record, Checked}
 
 -- the answer of a number with its place or nodes
 abbrev sheetAnswerOf : Reply → SheetAnswer
 sheetAnswerOf accepted = Checked (answerOf accepted)
 sheetAnswerOf (nodes k i j) = Checked (answerOf (nodes k i j))
-sheetAnswerOf (plain k) = Checked (answerOf (plain k))
+sheetAnswerOf (plain k) = Record
 sheetAnswerOf (place k p) = cond (eqb k 1) (Short p) (cond (eqb k 2) (Number p) (cond (eqb k 3) (Count p) (cond (eqb k 4) (Kind p) (Tail p))))
 
 checked-back : (a : MapAnswer) → sheetAnswerOf (reply a) ≡ Checked (answerOf (reply a))
@@ -36,6 +36,7 @@ back (Number p) = refl
 back (Count p) = refl
 back (Kind p) = refl
 back (Tail p) = refl
+back Record = refl
 back (Checked a) = checked-back a ∙ ap Checked (reply-back a)
 
 pub sheet-reply-injective : (a b : SheetAnswer) → sheetReply a ≡ sheetReply b → a ≡ b

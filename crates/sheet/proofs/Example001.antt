@@ -3,13 +3,13 @@ use mathlib.Core.Path.{_≡_, refl}
 use mathlib.Core.List.{List, [], _∷_, _++_}
 use Prim.Native.Nat.{ℕ}
 use lib.ListN.{replicate}
-use Rattle.region_map.specs.Map.{container, mmio, noRegion}
+use Rattle.map_records.specs.Map.{container, mmio, noRegion}
 use Rattle.region_map.specs.Fault.{parentFault, linkFault}
 use Rattle.region_map.specs.Clash.{siblingClash}
 use Rattle.region_map.specs.Reply.{accepted, first, lowest, pairsOf, firstPair}
 use Rattle.region_map.specs.Check.{judged}
-use Rattle.region_map.specs.declared.map.Region.{Region}
-use Rattle.region_map.specs.declared.map.RegionMap.{RegionMap}
+use Rattle.map_records.specs.declared.map.Region.{Region}
+use Rattle.map_records.specs.declared.map.RegionMap.{RegionMap}
 use Rattle.sheet.specs.Number.{groups}
 use Rattle.sheet.specs.Region.{fieldAt, fieldsFrom, regionAt}
 use Rattle.sheet.specs.Sheet.{regionsFrom, mapAt, readSheet}

@@ -1,5 +1,6 @@
 pub mod Answers
 pub mod Example001
 mod NumberLaws
+mod RefusalLaws
 mod RegionLaws
 mod SheetLaws

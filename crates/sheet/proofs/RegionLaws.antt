@@ -8,11 +8,11 @@ use native.Mathlib.Numerals.{add-one}
 use lib.Dec.{ltb}
 use lib.ListN.{getD, drop, length, drop-of-length-le}
 use lib.Seq.{drop-cons}
-use Rattle.region_map.specs.Map.{managed, has, withValue}
+use Rattle.map_records.specs.Map.{managed, has, withValue}
 use Rattle.region_map.specs.Reply.{Reply, place}
-use Rattle.region_map.specs.declared.map.Region.{Region}
-use Rattle.region_map.specs.declared.map.Field.{Field}
-use Rattle.region_map.specs.declared.map.Field.the-variants.{Parent}
+use Rattle.map_records.specs.declared.map.Region.{Region}
+use Rattle.map_records.specs.declared.map.Field.{Field}
+use Rattle.map_records.specs.declared.map.Field.the-variants.{Parent}
 use Rattle.sheet.specs.Answer.{Read, got, refused, next}
 use Rattle.sheet.specs.Number.{number}
 use Rattle.sheet.specs.Region.{sheetFields, fieldAt, fieldsFrom, ofKind, regionAt}

@@ -1,9 +1,9 @@
 -- What reading a sheet answers in document 01's terms. Assumes nothing: these are definitions.
 use Prim.Native.Nat.{ℕ}
-use Rattle.region_map.specs.Reply.{Reply, place}
+use Rattle.region_map.specs.Reply.{Reply, place, plain}
 use Rattle.region_map.specs.Check.{reply}
 use Rattle.sheet.specs.declared.answer.SheetAnswer.{SheetAnswer}
-use Rattle.sheet.specs.declared.answer.SheetAnswer.the-variants.{Short, Number, Count, Kind, Tail, Checked}
+use Rattle.sheet.specs.declared.answer.SheetAnswer.the-variants.{Short, Number, Count, Kind, Tail, Record, Checked}
 
 -- document 01's number and place or nodes for each answer
 abbrev pub sheetReply : SheetAnswer → Reply
@@ -12,6 +12,7 @@ sheetReply (Number p) = place 2 p
 sheetReply (Count p) = place 3 p
 sheetReply (Kind p) = place 4 p
 sheetReply (Tail p) = place 5 p
+sheetReply Record = plain 27
 sheetReply (Checked a) = reply a
 
 -- a value and the place of the byte after it, or a refusal

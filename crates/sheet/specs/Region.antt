@@ -2,12 +2,12 @@
 use mathlib.Core.Bool.{cond}
 use mathlib.Core.List.{List, [], _∷_}
 use Prim.Native.Nat.{ℕ}
-use Rattle.region_map.specs.Map.{has, withValue}
+use Rattle.map_records.specs.Map.{has, withValue}
 use Rattle.region_map.specs.Fault.{kindFault}
 use Rattle.region_map.specs.Reply.{place}
-use Rattle.region_map.specs.declared.map.Region.{Region}
-use Rattle.region_map.specs.declared.map.Field.{Field}
-use Rattle.region_map.specs.declared.map.Field.the-variants.{Parent, Offset, Size, Priority, MemoryStart, Port, Target, AliasOffset}
+use Rattle.map_records.specs.declared.map.Region.{Region}
+use Rattle.map_records.specs.declared.map.Field.{Field}
+use Rattle.map_records.specs.declared.map.Field.the-variants.{Parent, Offset, Size, Priority, MemoryStart, Port, Target, AliasOffset}
 use Rattle.sheet.specs.Answer.{Read, got, refused, next, sheetReply}
 use Rattle.sheet.specs.Number.{number}
 use Rattle.sheet.specs.declared.fields.RegionRead.{RegionRead}

@@ -6,13 +6,14 @@ use region_map::check;
 use region_map::check::MapAnswer;
 
 // A refusal of document 01 at a byte place, 1 to 5; or the sheet was read to its end, and this is what
-// the map's check says.
+// the map's check says; or the lent words are not those of a map.
 pub enum SheetAnswer {
     Short(usize),
     Number(usize),
     Count(usize),
     Kind(usize),
     Tail(usize),
+    Record,
     Checked(MapAnswer),
 }
 
@@ -31,6 +32,7 @@ pub fn number_of(answer: SheetAnswer) -> u64
         SheetAnswer::Count(_) => 3,
         SheetAnswer::Kind(_) => 4,
         SheetAnswer::Tail(_) => 5,
+        SheetAnswer::Record => 27,
         SheetAnswer::Checked(map) => check::number_of(map),
     }
 }

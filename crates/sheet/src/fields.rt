@@ -2,16 +2,16 @@
 ghost use mathlib.Core.Path.{_≡_};
 ghost use Prim.Native.Nat.{_<_};
 ghost use lib.ListN.{getD};
-ghost use Rattle.region_map.specs.declared.map.Field.the-variants.{Parent};
+ghost use Rattle.map_records.specs.declared.map.Field.the-variants.{Parent};
 ghost use Rattle.sheet.specs.Region.{sheetFields, fieldAt, fieldsFrom, regionAt, regionOf};
 use crate::answer::Cursor;
 use crate::answer::SheetAnswer;
 use crate::number::NumberRead;
 use crate::number::read_number;
-use region_map::map::Field;
-use region_map::map::MANAGED;
-use region_map::map::Region;
-use region_map::map::has;
+use map_records::map::Field;
+use map_records::map::MANAGED;
+use map_records::map::Region;
+use map_records::map::has;
 
 // The fields after the kind.
 const FIELDS: usize = 8;

@@ -1,71 +1,75 @@
 // The whole sheet.
 ghost use mathlib.Core.Path.{_≡_};
-ghost use Rattle.region_map.specs.Check.{judged};
+ghost use lib.ListN.{length};
+ghost use Rattle.map_records.specs.Map.{emptyMap};
+ghost use Rattle.map_records.specs.Words.{mapOf};
+ghost use Rattle.region_map.specs.Reply.{passes};
 ghost use Rattle.sheet.specs.Answer.{sheetReply};
-ghost use Rattle.sheet.specs.Sheet.{refusal as refused, checked, readSheet, outcomeOf};
+ghost use Rattle.sheet.specs.Sheet.{Reads, readSheet, readInto};
 use crate::answer::Cursor;
 use crate::answer::SheetAnswer;
 use crate::number::NumberRead;
 use crate::number::read_number;
 use crate::regions::Progress;
 use crate::regions::read_regions;
+use map_records::words::copy_words;
+use map_records::words::put_region_count;
 use region_map::check::accepts;
 use region_map::check::check_map;
-use region_map::map::RegionMap;
-use region_map::map::empty_map;
 
-// The answer, and the map where the sheet was accepted: else the empty map.
-pub struct SheetReading {
-    pub answer: SheetAnswer,
-    pub map: RegionMap,
-}
-
-// A refusal's reading.
-fn refusal(answer: SheetAnswer) -> SheetReading
-    ensures { λ r. ⌜ outcomeOf r ≡ refused (sheetReply answer) ⌝ }
-{
-    SheetReading {
-        answer: answer,
-        map: empty_map(),
-    }
-}
-
-// A map that was read to the sheet's end, judged against the memory's length.
-fn judged_reading(map: RegionMap, memory_length: u64) -> SheetReading
-    ensures { λ r. ⌜ outcomeOf r ≡ checked map (judged map «memory_length») ⌝ }
-{
-    let answer = check_map(map, memory_length);
-    if accepts(answer) {
-        return SheetReading {
-            answer: SheetAnswer::Checked(answer),
-            map: map,
-        };
-    }
-    refusal(SheetAnswer::Checked(answer))
-}
-
-// Reads a sheet for a guest memory of so many bytes.
-pub fn read_sheet(sheet: &[u8], memory_length: u64) -> SheetReading
-    ensures { λ r. ⌜ outcomeOf r ≡ readSheet (now (sheet .entry)) «memory_length» ⌝ }
+// The sheet's map, laid into words that are all zero: accepted, or the refusal.
+fn read_map(sheet: &[u8], memory_length: u64, map: &mut [u64]) -> SheetAnswer
+    requires { ⌜ (length (now map) ≡ 289) × (mapOf (now map) ≡ emptyMap) ⌝ }
+    ensures { λ r. ⌜ Reads (readSheet (now (sheet .entry)) «memory_length») r (now (map .exit)) ⌝ }
 {
     match read_number(sheet, Cursor { at: 0 }) {
-        NumberRead::Refused(answer) => refusal(answer),
+        NumberRead::Refused(answer) => answer,
         NumberRead::Value(count, next) => {
             if (count == 0) | (32 < count) {
-                return refusal(SheetAnswer::Count(0));
+                return SheetAnswer::Count(0);
             }
-            let read = read_regions(sheet, next, count as usize);
-            let progress = read.progress;
-            let map = read.map;
-            match progress {
-                Progress::Refused(answer) => refusal(answer),
+            put_region_count(map, count as usize);
+            match read_regions(sheet, next, count as usize, map) {
+                Progress::Refused(answer) => answer,
                 Progress::Done(end) => {
                     if end.at < sheet.len() {
-                        return refusal(SheetAnswer::Tail(end.at));
+                        return SheetAnswer::Tail(end.at);
                     }
-                    judged_reading(map, memory_length)
+                    SheetAnswer::Checked(check_map(map, memory_length))
                 }
             }
         }
     }
+}
+
+// Is the sheet accepted?
+fn is_accepted(answer: SheetAnswer) -> bool
+    ensures { λ r. ⌜ r ≡ passes (sheetReply answer) ⌝ }
+{
+    match answer {
+        SheetAnswer::Short(_) => false,
+        SheetAnswer::Number(_) => false,
+        SheetAnswer::Count(_) => false,
+        SheetAnswer::Kind(_) => false,
+        SheetAnswer::Tail(_) => false,
+        SheetAnswer::Record => false,
+        SheetAnswer::Checked(map) => accepts(map),
+    }
+}
+
+// Reads a sheet for a guest memory of so many bytes. The map is laid into the lent words; on a refusal they stay
+// as they are.
+pub fn read_sheet(sheet: &[u8], memory_length: u64, map: &mut [u64]) -> SheetAnswer
+    ensures { λ r. ⌜ (sheetReply r ≡ readInto (now (sheet .entry)) «memory_length» (now (map .entry)) .reply)
+        × (now (map .exit) ≡ readInto (now (sheet .entry)) «memory_length» (now (map .entry)) .words) ⌝ }
+{
+    if map.len() != 289 {
+        return SheetAnswer::Record;
+    }
+    let mut read = [0u64; 289];
+    let answer = read_map(sheet, memory_length, &mut read);
+    if is_accepted(answer) {
+        copy_words(map, &read);
+    }
+    answer
 }

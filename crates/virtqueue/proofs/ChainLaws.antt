@@ -1,20 +1,20 @@
 -- Laws of chains: the first bytes of elements, what an element adds, and the chain that is left at each descriptor. Assumes nothing.
-use mathlib.Core.Path.{_≡_, refl, sym, ap, _∙_, subst}
-use mathlib.Core.Bool.{Bool, true, false}
+use mathlib.Core.Path.{_≡_, refl, sym, ap, ap₂, _∙_, subst}
+use mathlib.Core.Bool.{Bool, true, false, cond}
 use mathlib.Core.List.{List, [], _∷_, _++_, map, map-append, append-assoc, append-nil}
-use Prim.Native.Nat.{ℕ, zero, suc, _+_, _-_, _≤_, _<_, min}
+use Prim.Native.Nat.{ℕ, zero, suc, _+_, _-_, _*_, _≤_, _<_, min}
 use native.Mathlib.Omega.{arith}
-use lib.ListN.{length, take, drop, replicate, length-append, length-map}
-use lib.Seq.{sets, sets-eq, length-sets, take-at, length-take-le}
+use native.Mathlib.Nat.{add-zero}
+use lib.ListN.{length, take, drop, getD, length-append, length-map, length-take, length-drop}
+use lib.Seq.{sets, sets-eq, length-sets, take-at, length-take-le, drop-drop}
 use borrow.Author.Tests.{lt-ltb, le-ltb}
-use Rattle.virtqueue.specs.Guest.{byteAt, addresses}
-use Rattle.virtqueue.specs.Chain.{Chain, whole, ended, element, hasNext, isWritable, misplaced, visit, follow, endOf, readable, writable, total, firstBytes}
+use Rattle.guest_view.specs.Guest.{byteAt, addresses, numberAt}
+use Rattle.virtqueue.specs.Chain.{Chain, whole, ended, element, Following, onward, astray, nextBelow, goOn, hasNext, isWritable, misplaced, visit, follow, endOf, readable, writable, total, firstBytes, descriptorAt}
 use Rattle.virtqueue.specs.Step.{requestBytes, responsePlaces}
-use Rattle.virtqueue.specs.Contracts.{added, Gathers}
+use Rattle.virtqueue.specs.Contracts.{Got, added, stopAt, Visits, Gathers}
 use Rattle.virtqueue.specs.declared.chain.Descriptor.{Descriptor}
 use Rattle.virtqueue.specs.declared.chain.Fetched.{Fetched}
 use Rattle.virtqueue.specs.declared.chain.Fetched.the-variants.{Out, Here}
-use Rattle.virtqueue.specs.declared.chain.Gathered.{Gathered}
 
 -- stretches of addresses
 pub length-addresses : (a n : ℕ) → length (addresses a n) ≡ n
@@ -53,21 +53,54 @@ length-first k (d ∷ ds) =
     length-append (addresses (d .addr .0) (min k (d .length))) (firstBytes (k - d .length) ds)
     ∙ omega (arith, length-addresses (d .addr .0) (min k (d .length)), length-first (k - d .length) ds)
 
--- what an element adds, as it is computed
-module _ (place : ℕ → ℕ) (memory : List ℕ) (s : Gathered) (d : Descriptor) (n : ℕ) (xs : List ℕ) where
-  pub added-written : isWritable d ≡ true → n ≡ min (10 - s .writable) (d .length) → xs ≡ sets (s .places) (s .writable) (map place (addresses (d .addr .0) n))
-      → record { stop = s .stop; request = s .request; readable = s .readable; places = xs; writable = s .writable + n } ≡ added place memory s d
+-- what an element adds, by its kind
+module _ (place : ℕ → ℕ) (memory : List ℕ) (s : Got) (d : Descriptor) where
+  pub added-written : isWritable d ≡ true → (n : ℕ) → n ≡ min (10 - s .writable) (d .length)
+      → record { request = s .request; readable = s .readable; places = sets (s .places) (s .writable) (map place (addresses (d .addr .0) n)); writable = s .writable + n; late = true } ≡ added place memory s d
   unfolding added
-  added-written w e p = rw (w, p, e)
+  added-written w n e = rw (w, e)
 
-  pub added-read : isWritable d ≡ false → n ≡ min (24 - s .readable) (d .length) → xs ≡ sets (s .request) (s .readable) (map (byteAt place memory) (addresses (d .addr .0) n))
-      → record { stop = s .stop; request = xs; readable = s .readable + n; places = s .places; writable = s .writable } ≡ added place memory s d
+  pub added-read : isWritable d ≡ false → (n : ℕ) → n ≡ min (24 - s .readable) (d .length)
+      → record { request = sets (s .request) (s .readable) (map (byteAt place memory) (addresses (d .addr .0) n)); readable = s .readable + n; places = s .places; writable = s .writable; late = false } ≡ added place memory s d
   unfolding added
-  added-read w e p = rw (w, p, e)
+  added-read w n e = rw (w, e)
+
+  pub added-late : added place memory s d .late ≡ isWritable d
+  unfolding added
+  added-late = go (isWritable d) refl
+    where
+      go : (b : Bool) → isWritable d ≡ b → added place memory s d .late ≡ isWritable d
+      go true w = rw w
+      go false w = rw w
+
+-- what one descriptor comes to
+module _ (place : ℕ → ℕ) (memory : List ℕ) (R : Descriptor → Bool) (d : Descriptor) (s : Got) (k : ℕ) (t : Got) where
+  pub visits-misplaced : misplaced (s .late) d ≡ true → k ≡ 20 → Visits place memory R d s k t
+  visits-misplaced m e = record { end = rw m e; accepted = λ z. absurd (let f = e in omega arith) }
+
+  pub visits-refused : misplaced (s .late) d ≡ false → R d ≡ false → k ≡ 21 → Visits place memory R d s k t
+  visits-refused m r e = record { end = rw (m, r) e; accepted = λ z. absurd (let f = e in omega arith) }
+
+  pub visits-added : misplaced (s .late) d ≡ false → R d ≡ true → k ≡ 0 → t ≡ added place memory s d → Visits place memory R d s k t
+  visits-added m r e a = record { end = rw (m, r) e; accepted = λ z. a }
+
+-- bytes or places stored into a part of a buffer
+pub part-sets : (xs ys : List ℕ) (n k : ℕ) → length ys ≡ k → n + k ≤ length xs → take n xs ++ (ys ++ drop k (drop n xs)) ≡ sets xs n ys
+part-sets xs ys n k e h =
+    let f : n + k ≡ n + length ys = omega arith in
+    ap (λ (z : List ℕ). take n xs ++ (ys ++ z)) (drop-drop k n xs ∙ ap (λ (z : ℕ). drop z xs) f)
+    ∙ sym (append-assoc (take n xs) ys (drop (n + length ys) xs)) ∙ sym (sets-eq ys xs n (omega arith))
+
+pub stretch-stored : (f : ℕ → ℕ) (xs ys : List ℕ) (a w k n : ℕ) → k ≡ n → w + n ≤ length xs → ys ≡ map f (addresses a (length (take k (drop w xs))))
+    → take w xs ++ (ys ++ drop k (drop w xs)) ≡ sets xs w (map f (addresses a n))
+stretch-stored f xs ys a w k n e h p =
+    let l : length (take k (drop w xs)) ≡ n = omega (arith, length-take k (drop w xs), length-drop w xs) in
+    let q : ys ≡ map f (addresses a n) = p ∙ ap (λ (z : ℕ). map f (addresses a z)) l in
+    let r : length ys ≡ k = ap length q ∙ length-map (addresses a n) f ∙ length-addresses a n ∙ sym e in
+    part-sets xs ys w k r (omega arith) ∙ ap (λ (z : List ℕ). sets xs w z) q
 
 -- What is gathered of a chain c₀ where c is left of it.
-pub record Going (place : ℕ → ℕ) (memory : List ℕ) (c₀ c : Chain) (s : Gathered) : Type 0 where
-  pub stop : s .stop ≡ 0
+pub record Going (place : ℕ → ℕ) (memory : List ℕ) (c₀ c : Chain) (s : Got) : Type 0 where
   pub «few-read» : s .readable ≤ 24
   pub «few-written» : s .writable ≤ 10
   pub «all-read» : length (s .request) ≡ 24
@@ -77,21 +110,21 @@ pub record Going (place : ℕ → ℕ) (memory : List ℕ) (c₀ c : Chain) (s :
   pub places : take (s .writable) (s .places) ++ map place (firstBytes (10 - s .writable) (writable c)) ≡ responsePlaces place c₀
 
 module _ (place : ℕ → ℕ) (memory : List ℕ) (c₀ : Chain) where
-  pub going-start : Going place memory c₀ c₀ (record { stop = 0; request = replicate 24 0; readable = 0; places = replicate 10 0; writable = 0 })
+  pub going-start : (request places : List ℕ) → length request ≡ 24 → length places ≡ 10
+      → Going place memory c₀ c₀ (record { request = request; readable = 0; places = places; writable = 0; late = false })
   unfolding requestBytes responsePlaces
-  going-start =
-      record { stop = refl; «few-read» = omega arith; «few-written» = omega arith; «all-read» = refl; «all-written» = refl; end = refl; request = refl; places = refl }
+  going-start request places p q =
+      record { «few-read» = omega arith; «few-written» = omega arith; «all-read» = p; «all-written» = q; end = refl; request = refl; places = refl }
 
-  pub going-added : (c : Chain) (d : Descriptor) (s : Gathered) → Going place memory c₀ (element d c) s → Going place memory c₀ c (added place memory s d)
-  unfolding added endOf readable writable
+  pub going-added : (c : Chain) (d : Descriptor) (s : Got) → Going place memory c₀ (element d c) s → Going place memory c₀ c (added place memory s d)
+  unfolding endOf readable writable
   going-added c d s g = go (isWritable d) refl
     where
       go : (b : Bool) → isWritable d ≡ b → Going place memory c₀ c (added place memory s d)
       go true w =
           let k : ℕ = min (10 - s .writable) (d .length) in
-          subst (λ (r : Gathered). Going place memory c₀ c r) (added-written place memory s d k (sets (s .places) (s .writable) (map place (addresses (d .addr .0) k))) w refl refl)
+          subst (λ (r : Got). Going place memory c₀ c r) (added-written place memory s d w k refl)
           (record {
-            stop = g .stop;
             «few-read» = g .«few-read»;
             «few-written» = omega (arith, g .«few-written»);
             «all-read» = g .«all-read»;
@@ -102,9 +135,8 @@ module _ (place : ℕ → ℕ) (memory : List ℕ) (c₀ : Chain) where
           })
       go false w =
           let k : ℕ = min (24 - s .readable) (d .length) in
-          subst (λ (r : Gathered). Going place memory c₀ c r) (added-read place memory s d k (sets (s .request) (s .readable) (map (byteAt place memory) (addresses (d .addr .0) k))) w refl refl)
+          subst (λ (r : Got). Going place memory c₀ c r) (added-read place memory s d w k refl)
           (record {
-            stop = g .stop;
             «few-read» = omega (arith, g .«few-read»);
             «few-written» = g .«few-written»;
             «all-read» = length-sets (s .request) (s .readable) (map (byteAt place memory) (addresses (d .addr .0) k)) ∙ g .«all-read»;
@@ -115,32 +147,32 @@ module _ (place : ℕ → ℕ) (memory : List ℕ) (c₀ : Chain) where
           })
 
   -- the last element was gathered
-  pub going-whole : (s : Gathered) → Going place memory c₀ whole s → Gathers place memory c₀ s
+  pub going-whole : (s : Got) (k : ℕ) → k ≡ 0 → Going place memory c₀ whole s → Gathers place memory c₀ k s
   unfolding endOf readable writable firstBytes
-  going-whole s g =
+  going-whole s k z g =
       record {
-        end = g .stop ∙ g .end;
-        «few-read» = g .«few-read»;
-        «few-written» = g .«few-written»;
+        end = z ∙ g .end;
+        «few-read» = λ e. g .«few-read»;
+        «few-written» = λ e. g .«few-written»;
         request = λ e. sym (append-nil (take (s .readable) (s .request))) ∙ g .request;
         places = λ e. sym (append-nil (take (s .writable) (s .places))) ∙ g .places;
       }
 
   -- one element more of the chain that was left
-  pub going-next : (c rest : Chain) (d : Descriptor) (s r : Gathered) → Going place memory c₀ c s → c ≡ element d rest → r ≡ added place memory s d → Going place memory c₀ rest r
+  pub going-next : (c rest : Chain) (d : Descriptor) (s r : Got) → Going place memory c₀ c s → c ≡ element d rest → r ≡ added place memory s d → Going place memory c₀ rest r
   going-next c rest d s r g e q =
-      subst (λ (t : Gathered). Going place memory c₀ rest t) (sym q) (going-added rest d s (subst (λ (t : Chain). Going place memory c₀ t s) e g))
+      subst (λ (t : Got). Going place memory c₀ rest t) (sym q) (going-added rest d s (subst (λ (t : Chain). Going place memory c₀ t s) e g))
 
   -- a number ended it
-  pub going-ended : (c : Chain) (k : ℕ) (s r : Gathered) → Going place memory c₀ c s → endOf c ≡ k → 0 < k
-      → (r .stop ≡ k) × (r .readable ≡ s .readable) × (r .writable ≡ s .writable) → Gathers place memory c₀ r
-  going-ended c k s r g e p q =
+  pub going-ended : (c : Chain) (k j : ℕ) (s t : Got) → Going place memory c₀ c s → endOf c ≡ k → (k ≡ 0 → ⊥) → j ≡ k → Gathers place memory c₀ j t
+  going-ended c k j s t g e p q =
+      let never : endOf c₀ ≡ 0 → ⊥ = λ n. p (sym e ∙ g .end ∙ n) in
       record {
-        end = q .0 ∙ sym e ∙ g .end;
-        «few-read» = omega (arith, g .«few-read»);
-        «few-written» = omega (arith, g .«few-written»);
-        request = λ n. absurd (omega (arith, g .end));
-        places = λ n. absurd (omega (arith, g .end));
+        end = q ∙ sym e ∙ g .end;
+        «few-read» = λ n. absurd (never n);
+        «few-written» = λ n. absurd (never n);
+        request = λ n. absurd (never n);
+        places = λ n. absurd (never n);
       }
 
 -- the chain left at a descriptor
@@ -148,41 +180,80 @@ pub end-ended : (k : ℕ) → endOf (ended k) ≡ k
 unfolding endOf
 end-ended k = refl
 
-module _ (F : ℕ → Fetched) (R : Descriptor → Bool) (size i : ℕ) (late : Bool) where
-  pub follow-none : (left : ℕ) → left ≡ 0 → endOf (follow F R size left i late) ≡ 20
+pub next-below : (size i : ℕ) (d : Descriptor) → d .next < size → nextBelow size d i ≡ onward (d .next)
+next-below size i d h = rw (lt-ltb (d .next) size h)
+
+pub next-astray : (size i : ℕ) (d : Descriptor) → size ≤ d .next → nextBelow size d i ≡ astray
+next-astray size i d h = rw (le-ltb (d .next) size h)
+
+module _ (F : ℕ → Fetched) (R : Descriptor → Bool) (N : Descriptor → ℕ → Following) (i : ℕ) (late : Bool) where
+  pub follow-none : (left : ℕ) → left ≡ 0 → endOf (follow F R N left i late) ≡ 20
   unfolding follow endOf
   follow-none left e = rw e
 
-  pub follow-out : (left : ℕ) → 0 < left → F i ≡ Out → endOf (follow F R size left i late) ≡ 17
+  pub follow-out : (left : ℕ) → 0 < left → F i ≡ Out → endOf (follow F R N left i late) ≡ 17
   unfolding follow endOf visit
   follow-out zero p e = absurd (omega arith)
   follow-out (suc left) p e = rw e
 
   module _ (d : Descriptor) (e : F i ≡ Here d) where
-    pub follow-misplaced : (left : ℕ) → 0 < left → misplaced late d ≡ true → endOf (follow F R size left i late) ≡ 20
+    pub follow-stopped : (left k : ℕ) → 0 < left → k ≡ stopAt R late d → (k ≡ 0 → ⊥) → endOf (follow F R N left i late) ≡ k
     unfolding follow endOf visit
-    follow-misplaced zero p m = absurd (omega arith)
-    follow-misplaced (suc left) p m = rw (e, m)
+    follow-stopped zero k p s n = absurd (omega arith)
+    follow-stopped (suc left) k p s n = go (misplaced late d) refl (R d) refl
+      where
+        go : (x : Bool) → misplaced late d ≡ x → (y : Bool) → R d ≡ y → endOf (follow F R N (suc left) i late) ≡ k
+        go true m y r = let q : stopAt R late d ≡ 20 = rw m in rw (e, m) (sym (s ∙ q))
+        go false m true r = let q : stopAt R late d ≡ 0 = rw (m, r) in absurd (n (s ∙ q))
+        go false m false r = let q : stopAt R late d ≡ 21 = rw (m, r) in rw (e, m, r) (sym (s ∙ q))
 
-    pub follow-refused : (left : ℕ) → 0 < left → misplaced late d ≡ false → R d ≡ false → endOf (follow F R size left i late) ≡ 21
-    unfolding follow endOf visit
-    follow-refused zero p m r = absurd (omega arith)
-    follow-refused (suc left) p m r = rw (e, m, r)
+    module _ (a : stopAt R late d ≡ 0) where
+      accepted : (misplaced late d ≡ false) × (R d ≡ true)
+      accepted = go (misplaced late d) (R d) a
+        where
+          go : (x y : Bool) → _≡_ {A = ℕ} (cond x 20 (cond y 0 21)) 0 → (x ≡ false) × (y ≡ true)
+          go true y h = absurd (omega arith)
+          go false true h = (refl, refl)
+          go false false h = absurd (omega arith)
 
-    module _ (m : misplaced late d ≡ false) (r : R d ≡ true) where
-      pub follow-last : (left : ℕ) → 0 < left → hasNext d ≡ false → follow F R size left i late ≡ element d whole
+      pub follow-last : (left : ℕ) → 0 < left → hasNext d ≡ false → follow F R N left i late ≡ element d whole
       unfolding follow visit
       follow-last zero p n = absurd (omega arith)
-      follow-last (suc left) p n = rw (e, m, r, n)
+      follow-last (suc left) p n = rw (e, accepted .0, accepted .1, n)
 
-      pub follow-astray : (left : ℕ) → 0 < left → hasNext d ≡ true → size ≤ d .next → follow F R size left i late ≡ element d (ended 20)
+      pub follow-astray : (left : ℕ) → 0 < left → hasNext d ≡ true → N d i ≡ astray → follow F R N left i late ≡ element d (ended 20)
       unfolding follow visit
       follow-astray zero p n h = absurd (omega arith)
-      follow-astray (suc left) p n h = rw (e, m, r, n, le-ltb (d .next) size h)
+      follow-astray (suc left) p n h = rw (e, accepted .0, accepted .1, n, h)
 
-      pub follow-next : (left : ℕ) → 0 < left → hasNext d ≡ true → d .next < size → follow F R size left i late ≡ element d (follow F R size (left - 1) (d .next) (isWritable d))
+      pub follow-next : (left j : ℕ) → 0 < left → hasNext d ≡ true → N d i ≡ onward j → follow F R N left i late ≡ element d (follow F R N (left - 1) j (isWritable d))
       unfolding follow visit
-      follow-next zero p n h = absurd (omega arith)
-      follow-next (suc left) p n h =
+      follow-next zero j p n h = absurd (omega arith)
+      follow-next (suc left) j p n h =
           let q : left ≡ suc left - 1 = omega arith in
-          rw (e, m, r, n, lt-ltb (d .next) size h, ← q)
+          rw (e, accepted .0, accepted .1, n, h, ← q)
+
+-- a descriptor in sixteen bytes that were laid side by side
+pub byte-laid : (f : ℕ → ℕ) (a n o : ℕ) → o < n → getD (map f (addresses a n)) o 0 ≡ f (a + o)
+unfolding addresses
+byte-laid f a zero o h = absurd (omega arith)
+byte-laid f a (suc n) zero h = ap f (sym (add-zero a))
+byte-laid f a (suc n) (suc o) h = let e : suc a + o ≡ a + suc o = omega arith in byte-laid f (suc a) n o (omega arith) ∙ ap f e
+
+pub number-laid : (place : ℕ → ℕ) (memory : List ℕ) (a n o k : ℕ) → o + k ≤ n
+    → numberAt (λ x. x) (map (byteAt place memory) (addresses a n)) o k ≡ numberAt place memory (a + o) k
+unfolding numberAt
+number-laid place memory a n o zero h = refl
+number-laid place memory a n o (suc k) h =
+    let e : a + suc o ≡ suc (a + o) = omega arith in
+    ap₂ (λ (b r : ℕ). b + 256 * r) (byte-laid (byteAt place memory) a n o (omega arith))
+    (number-laid place memory a n (suc o) k (omega arith) ∙ ap (λ (x : ℕ). numberAt place memory x k) e)
+
+pub descriptor-laid : (place : ℕ → ℕ) (memory : List ℕ) (a : ℕ) → descriptorAt (λ x. x) (map (byteAt place memory) (addresses a 16)) 0 ≡ descriptorAt place memory a
+unfolding descriptorAt
+descriptor-laid place memory a =
+    let first = number-laid place memory a 16 0 8 (omega arith) ∙ ap (λ (x : ℕ). numberAt place memory x 8) (add-zero a) in
+    let second = number-laid place memory a 16 8 4 (omega arith) in
+    let third = number-laid place memory a 16 12 2 (omega arith) in
+    let fourth = number-laid place memory a 16 14 2 (omega arith) in
+    λ i. record { addr = record { 0 = first i }; length = second i; flags = third i; next = fourth i }

@@ -1,4 +1,4 @@
--- Demand 2 for 16 to 27: each number exactly at its cause, found by number. Assumes nothing.
+-- Demand 2 for 16 to 22 and 27: each number exactly at its cause, found by number. Assumes nothing.
 use mathlib.Core.Logic.{_⊎_, inl, inr, ⊎-elim}
 use mathlib.Core.Path.{_≡_, refl, sym, ap, _∙_}
 use mathlib.Core.Bool.{Bool, true, false, cond, _&&_, _||_, not}
@@ -8,25 +8,21 @@ use native.Mathlib.Omega.{arith}
 use lib.Dec.{eqb, leb, ltb}
 use lib.ListN.{length}
 use borrow.Author.Tests.{eqb-true, eqb-false, ne-eqb, leb-true}
-use Rattle.region_map.specs.declared.view.FlatView.{FlatView}
+use Rattle.map_records.specs.declared.view.FlatView.{FlatView}
 use Rattle.region_map.proofs.Bools.{never, and-fst, and-snd}
-use Rattle.region_map.specs.Map.{mmio}
-use Rattle.memory_device.specs.Table.{allBelow}
-use Rattle.memory_device.specs.Device.{deviceOk}
-use Rattle.virtqueue.specs.View.{viewOk}
-use Rattle.memory_device.specs.declared.device.MemoryDevice.{MemoryDevice}
-use Rattle.virtqueue.specs.Guest.{Leaf, nowhere, leaf, Guest, byView, allReach, numberAt}
+use Rattle.device_words.specs.Device.{deviceOk}
+use Rattle.guest_view.specs.View.{viewOk}
+use Rattle.device_words.specs.Device.{MemoryDevice}
+use Rattle.guest_view.specs.Guest.{Guest, allReach, numberAt, byView}
 use Rattle.virtqueue.specs.Queue.{areasOk, stopOk, queueOk, made, ringEntry, distance}
-use Rattle.virtqueue.specs.Chain.{Chain, whole, ended, refused, element, misplaced, hasNext, isWritable, visit, follow, endOf, readable, writable, total, shapeOf, chainAt, fetched, reached}
-use Rattle.virtqueue.specs.Route.{widthOk, isNowhere, follows, isOpen, target, routed}
-use Rattle.virtqueue.specs.Step.{Offer, stop, idle, ready, noticesOf, headOf, chainOf, usedReached, offerChain, offerHead, offerNotices, offered, finished, servedResult, notifies, headChain, noticesChain, comesTo, steppedBy, recordsOk, stepped}
-use Rattle.virtqueue.specs.Causes.{refusedBy, routeRefusedBy, is16, idx, entry, chain, noticed, pending, ahead, offers, entered, headed, chained, short, shaped, cause17, cause18, cause19, cause20, cause21, cause22, cause23, cause24, cause25, cause26}
+use Rattle.virtqueue.specs.Chain.{Chain, whole, ended, refused, element, Following, onward, astray, nextBelow, goOn, misplaced, hasNext, isWritable, visit, follow, endOf, readable, writable, total, shapeOf, chainAt, fetched, reached}
+use Rattle.virtqueue.specs.Step.{Offer, stop, idle, ready, noticesOf, headOf, chainOf, usedReached, offerChain, offerHead, offerNotices, offered, finished, notifies, headChain, noticesChain, comesTo, steppedBy, recordsOk, stepped}
+use Rattle.virtqueue.specs.Causes.{refusedBy, is16, idx, entry, chain, noticed, pending, ahead, offers, entered, headed, chained, short, shaped, cause17, cause18, cause19, cause20, cause21, cause22}
 use Rattle.virtqueue.specs.declared.chain.Descriptor.{Descriptor}
 use Rattle.virtqueue.specs.declared.chain.Fetched.{Fetched}
 use Rattle.virtqueue.specs.declared.chain.Fetched.the-variants.{Out, Here}
 use Rattle.virtqueue.specs.declared.queue.SplitQueue.{SplitQueue}
 use Rattle.virtqueue.specs.declared.queue.QueueGiven.{QueueGiven}
-use Rattle.virtqueue.specs.declared.route.RouteAnswer.the-variants as route
 use Rattle.virtqueue.specs.declared.take.AvailableNotices.the-variants as notices
 use Rattle.virtqueue.specs.declared.take.HeadEntry.the-variants as head
 use Rattle.virtqueue.specs.declared.step.StepOutcome.{StepOutcome}
@@ -42,9 +38,9 @@ refused-16 size descriptors available used = go (areasOk size descriptors availa
     go false y z p r = r
 
 -- Where a chain ends: one descriptor, of which `left` more may follow.
-module _ (fetch : ℕ → Fetched) (test : Descriptor → Bool) (size left i : ℕ) (late : Bool) where
+module _ (fetch : ℕ → Fetched) (test : Descriptor → Bool) (next : Descriptor → ℕ → Following) (left i : ℕ) (late : Bool) where
   abbrev on : ℕ
-  on = endOf (follow fetch test size (suc left) i late)
+  on = endOf (follow fetch test next (suc left) i late)
 
   -- 17: the descriptor's bytes
   pub chain-17 : fetch i ≡ Out → on ≡ 17
@@ -64,24 +60,31 @@ module _ (fetch : ℕ → Fetched) (test : Descriptor → Bool) (size left i : �
       chain-21 r = rw (e, p, r)
 
       module _ (r : test d ≡ true) where
-        -- 20: 'next not below the queue size'
-        pub chain-20-next : hasNext d ≡ true → ltb (d .next) size ≡ false → on ≡ 20
+        -- 20: the next entry is none of the table
+        pub chain-20-next : hasNext d ≡ true → next d i ≡ astray → on ≡ 20
         unfolding follow visit endOf
         chain-20-next n l = rw (e, p, r, n, l)
 
         -- 20: 'NEXT set in the descriptor that is the queue-size-th of the chain'
-        pub chain-20-length : hasNext d ≡ true → ltb (d .next) size ≡ true → left ≡ 0 → on ≡ 20
+        pub chain-20-length : (j : ℕ) → hasNext d ≡ true → next d i ≡ onward j → left ≡ 0 → on ≡ 20
         unfolding follow visit endOf
-        chain-20-length n l z = rw (e, p, r, n, l, z)
+        chain-20-length j n l z = rw (e, p, r, n, l, z)
 
         -- else the chain goes on, or is whole
-        pub chain-on : hasNext d ≡ true → ltb (d .next) size ≡ true → on ≡ endOf (follow fetch test size left (d .next) (isWritable d))
+        pub chain-on : (j : ℕ) → hasNext d ≡ true → next d i ≡ onward j → on ≡ endOf (follow fetch test next left j (isWritable d))
         unfolding follow visit endOf
-        chain-on n l = rw (e, p, r, n, l)
+        chain-on j n l = rw (e, p, r, n, l)
 
         pub chain-whole : hasNext d ≡ false → on ≡ 0
         unfolding follow visit endOf
         chain-whole n = rw (e, p, r, n)
+
+-- in the queue's table 20 is 'next not below the queue size'
+pub next-20 : (size i : ℕ) (d : Descriptor) → ltb (d .next) size ≡ false → nextBelow size d i ≡ astray
+next-20 size i d l = rw l
+
+pub next-on : (size i : ℕ) (d : Descriptor) → ltb (d .next) size ≡ true → nextBelow size d i ≡ onward (d .next)
+next-on size i d l = rw l
 
 -- a chain ends with no other number
 pub data Ends : ℕ → Type 0 where
@@ -90,27 +93,27 @@ pub data Ends : ℕ → Type 0 where
   at20 : Ends 20
   at21 : Ends 21
 
-module _ (test : Descriptor → Bool) where
-  visit-ends : (size : ℕ) (late : Bool) (rest : ℕ → Bool → Chain) → ((i : ℕ) (w : Bool) → Ends (endOf (rest i w))) → (x : Fetched) → Ends (endOf (visit test size late rest x))
+module _ (test : Descriptor → Bool) (next : Descriptor → ℕ → Following) where
+  visit-ends : (i : ℕ) (late : Bool) (rest : ℕ → Bool → Chain) → ((j : ℕ) (w : Bool) → Ends (endOf (rest j w))) → (x : Fetched) → Ends (endOf (visit test next i late rest x))
   unfolding visit endOf
-  visit-ends size late rest f Out = at17
-  visit-ends size late rest f (Here d) = go (misplaced late d) (test d) (hasNext d) (ltb (d .next) size)
+  visit-ends i late rest f Out = at17
+  visit-ends i late rest f (Here d) = go (misplaced late d) (test d) (hasNext d) (next d i)
     where
-      go : (x y n l : Bool) → Ends (endOf (cond x (ended 20) (cond y (element d (cond n (cond l (rest (d .next) (isWritable d)) (ended 20)) whole)) (refused d))))
+      go : (x y n : Bool) (l : Following) → Ends (endOf (cond x (ended 20) (cond y (element d (cond n (goOn (λ j. rest j (isWritable d)) l) whole)) (refused d))))
       go true y n l = at20
       go false false n l = at21
-      go false true true true = f (d .next) (isWritable d)
-      go false true true false = at20
+      go false true true (onward j) = f j (isWritable d)
+      go false true true astray = at20
       go false true false l = at0
 
-  follow-ends : (fetch : ℕ → Fetched) (size left i : ℕ) (late : Bool) → Ends (endOf (follow fetch test size left i late))
+  follow-ends : (fetch : ℕ → Fetched) (left i : ℕ) (late : Bool) → Ends (endOf (follow fetch test next left i late))
   unfolding follow endOf
-  follow-ends fetch size zero i late = at20
-  follow-ends fetch size (suc left) i late = visit-ends size late (follow fetch test size left) (λ j w. follow-ends fetch size left j w) (fetch i)
+  follow-ends fetch zero i late = at20
+  follow-ends fetch (suc left) i late = visit-ends i late (follow fetch test next left) (λ j w. follow-ends fetch left j w) (fetch i)
 
 pub chain-ends : (g : Guest) (memory : List ℕ) (table size h : ℕ) → Ends (endOf (chainAt g memory table size h))
 unfolding chainAt
-chain-ends g memory table size h = follow-ends (reached g) (fetched g memory table) size size h false
+chain-ends g memory table size h = follow-ends (reached g) (nextBelow size) (fetched g memory table) size h false
 
 -- Does a step that is not stopped end with number k? By what it meets on its way: available flags and idx reachable, something pending, too far ahead, the entry reachable, the head in the table, too short, the used ring reachable, the chain's end.
 abbrev told : ℕ → Bool → Bool → Bool → Bool → Bool → Bool → Bool → ℕ → Bool
@@ -132,7 +135,7 @@ module _ (g : Guest) (d : MemoryDevice) (memory : List ℕ) (q : SplitQueue) whe
   by-chain : (k h : ℕ) (n : Bool) (c : Chain) (e : ℕ) → Ends e → endOf c ≡ e → (s u : Bool)
       → (ltb (total (readable c)) 24 || ltb (total (writable c)) 10) ≡ s → usedReached g q ≡ u
       → by k (offerChain g q h n c) ≡ cond (eqb e 0) (cond s (eqb 22 k) (cond u false (eqb 17 k))) (eqb e k)
-  unfolding offerChain shapeOf servedResult
+  unfolding offerChain shapeOf
   by-chain k h n c e at0 p true u t v = rw (p, t)
   by-chain k h n c e at0 p false true t v = rw (p, t, v)
   by-chain k h n c e at0 p false false t v = rw (p, t, v)
@@ -356,73 +359,3 @@ refused-27 v d q memory = go (recordsOk v d q (length memory)) refl
     go true e =
         rw e (never-27 (byView v d) d memory q (and-snd (deviceOk d) (queueOk q) (and-snd (viewOk v (length memory) (d .«region_size»)) (deviceOk d && queueOk q) e)))
     go false e = rw e
-
--- Routing.
-module _ (answers : ℕ → Leaf) (plugged : ℕ → Bool) (a w : ℕ) where
-  abbrev asked : ℕ → Leaf → Bool → Bool → Bool → Bool
-  asked k x ok same free =
-      routeRefusedBy k (cond ok (cond (isNowhere x) (route.Refused 24) (cond same (cond free (target x) (route.Refused 26)) (route.Refused 25))) (route.Refused 23))
-
-  -- 23: 'access width not 1, 2, 4, 8'
-  pub refused-23 : routeRefusedBy 23 (routed answers plugged a w) ≡ cause23 answers plugged a w
-  unfolding routed
-  refused-23 = go (answers a) (widthOk w) (allBelow (λ i. follows (answers a) i (answers (a + i))) w) (allBelow (λ i. isOpen plugged (answers (a + i))) w)
-    where
-      routed-on : (b : Bool) (p o : ℕ) → routeRefusedBy 23 (cond b (route.Port p (record { 0 = o })) (route.Memory (p + o))) ≡ false
-      routed-on true p o = refl
-      routed-on false p o = refl
-
-      go : (x : Leaf) (ok same free : Bool) → asked 23 x ok same free ≡ (not ok)
-      go x false same free = refl
-      go nowhere true same free = refl
-      go (leaf n kind base o) true false free = refl
-      go (leaf n kind base o) true true false = refl
-      go (leaf n kind base o) true true true = routed-on (eqb kind mmio) base o
-
-  -- 24: 'first byte answers nothing'
-  pub refused-24 : routeRefusedBy 24 (routed answers plugged a w) ≡ cause24 answers plugged a w
-  unfolding routed
-  refused-24 = go (answers a) (widthOk w) (allBelow (λ i. follows (answers a) i (answers (a + i))) w) (allBelow (λ i. isOpen plugged (answers (a + i))) w)
-    where
-      routed-on : (b : Bool) (p o : ℕ) → routeRefusedBy 24 (cond b (route.Port p (record { 0 = o })) (route.Memory (p + o))) ≡ false
-      routed-on true p o = refl
-      routed-on false p o = refl
-
-      go : (x : Leaf) (ok same free : Bool) → asked 24 x ok same free ≡ (ok && isNowhere x)
-      go x false same free = refl
-      go nowhere true same free = refl
-      go (leaf n kind base o) true false free = refl
-      go (leaf n kind base o) true true false = refl
-      go (leaf n kind base o) true true true = routed-on (eqb kind mmio) base o
-
-  -- 25: 'a later byte is not the same node at the next offset'
-  pub refused-25 : routeRefusedBy 25 (routed answers plugged a w) ≡ cause25 answers plugged a w
-  unfolding routed
-  refused-25 = go (answers a) (widthOk w) (allBelow (λ i. follows (answers a) i (answers (a + i))) w) (allBelow (λ i. isOpen plugged (answers (a + i))) w)
-    where
-      routed-on : (b : Bool) (p o : ℕ) → routeRefusedBy 25 (cond b (route.Port p (record { 0 = o })) (route.Memory (p + o))) ≡ false
-      routed-on true p o = refl
-      routed-on false p o = refl
-
-      go : (x : Leaf) (ok same free : Bool) → asked 25 x ok same free ≡ (ok && not (isNowhere x) && not same)
-      go x false same free = refl
-      go nowhere true same free = refl
-      go (leaf n kind base o) true false free = refl
-      go (leaf n kind base o) true true false = refl
-      go (leaf n kind base o) true true true = routed-on (eqb kind mmio) base o
-
-  -- 26: 'a byte lies in an unplugged block'
-  pub refused-26 : routeRefusedBy 26 (routed answers plugged a w) ≡ cause26 answers plugged a w
-  unfolding routed
-  refused-26 = go (answers a) (widthOk w) (allBelow (λ i. follows (answers a) i (answers (a + i))) w) (allBelow (λ i. isOpen plugged (answers (a + i))) w)
-    where
-      routed-on : (b : Bool) (p o : ℕ) → routeRefusedBy 26 (cond b (route.Port p (record { 0 = o })) (route.Memory (p + o))) ≡ false
-      routed-on true p o = refl
-      routed-on false p o = refl
-
-      go : (x : Leaf) (ok same free : Bool) → asked 26 x ok same free ≡ (ok && not (isNowhere x) && same && not free)
-      go x false same free = refl
-      go nowhere true same free = refl
-      go (leaf n kind base o) true false free = refl
-      go (leaf n kind base o) true true false = refl
-      go (leaf n kind base o) true true true = routed-on (eqb kind mmio) base o

@@ -8,25 +8,26 @@ use native.Mathlib.Omega.{arith}
 use lib.Dec.{eqb, ltb}
 use lib.ListN.{length, getD}
 use borrow.Author.Tests.{eqb-true, ne-eqb}
-use Rattle.region_map.specs.Map.{ram, mmio, managed, region}
+use Rattle.map_records.specs.Map.{ram, mmio, managed, region}
 use Rattle.region_map.specs.Check.{Accepted}
 use Rattle.region_map.specs.Walk.{walkRoot}
 use Rattle.region_map.specs.Reply.{accepted, plain}
-use Rattle.region_map.specs.Flatten.{Outcome, flatList, viewOf, entries, flattened}
-use Rattle.region_map.specs.declared.map.RegionMap.{RegionMap}
-use Rattle.region_map.specs.declared.map.RegionOffset.{RegionOffset}
+use Rattle.region_map.specs.Flatten.{Outcome, flatList, viewHolding, flattened}
+use Rattle.map_records.specs.View.{entries}
+use Rattle.map_records.specs.declared.map.RegionMap.{RegionMap}
+use Rattle.map_records.specs.declared.map.RegionOffset.{RegionOffset}
 use Rattle.region_map.specs.declared.resolve.Resolved.{Resolved}
 use Rattle.region_map.specs.declared.resolve.Resolved.the-variants.{Nothing, At}
-use Rattle.region_map.specs.declared.view.FlatView.{FlatView}
+use Rattle.map_records.specs.declared.view.FlatView.{FlatView}
 use Rattle.region_map.proofs.Bools.{never, and-fst, and-snd}
 use Rattle.region_map.proofs.Demand3.{demand3-first-half, refused-12}
-use Rattle.memory_device.specs.Host.{pluggedAt}
-use Rattle.memory_device.specs.Request.{requestOf, carriedOut}
-use Rattle.memory_device.specs.declared.device.MemoryDevice.{MemoryDevice}
-use Rattle.virtqueue.specs.Guest.{Leaf, nowhere, leaf, leafOf, leafAt, reachLeaf, placeLeaf, Guest, byView, allReach, addresses, byteAt, numberAt, written}
+use Rattle.device_words.specs.Device.{pluggedAt}
+use Rattle.device_words.specs.Request.{requestOf, carriedOut}
+use Rattle.device_words.specs.Device.{MemoryDevice}
+use Rattle.guest_view.specs.Guest.{Leaf, nowhere, leaf, leafOf, leafAt, reachLeaf, placeLeaf, Guest, allReach, addresses, byteAt, numberAt, written, byView}
 use Rattle.virtqueue.specs.Queue.{ringEntry, usedEntry, usedIdx}
 use Rattle.virtqueue.specs.Chain.{Chain, whole, ended, refused, element, readable, writable, firstBytes, shapeOf}
-use Rattle.virtqueue.specs.Step.{Offer, stop, idle, ready, noticesOf, headOf, chainOf, usedReached, offerChain, offerHead, offerNotices, offered, headChain, noticesChain, comesTo, finished, servedResult, servedMemory, requestBytes, responsePlaces, usedPlaces, usedBytes, Effect, unmoved, steppedBy, recordsOk, stepped}
+use Rattle.virtqueue.specs.Step.{Offer, stop, idle, ready, noticesOf, headOf, chainOf, usedReached, offerChain, offerHead, offerNotices, offered, headChain, noticesChain, comesTo, carrying, servedMemory, finished, requestBytes, responsePlaces, usedPlaces, usedBytes, Effect, unmoved, steppedBy, recordsOk, stepped}
 use Rattle.virtqueue.specs.SecondHalf.{leads, Led, placeOf, treePlace, elementsOf, Exactly, treeRequest, treeHead, treeMemory, SecondHalf}
 use Rattle.virtqueue.specs.declared.chain.Descriptor.{Descriptor}
 use Rattle.virtqueue.specs.declared.queue.SplitQueue.{SplitQueue}
@@ -36,8 +37,8 @@ use Rattle.virtqueue.specs.declared.take.HeadEntry.{HeadEntry}
 use Rattle.virtqueue.specs.declared.take.HeadEntry.the-variants as head
 use Rattle.virtqueue.specs.declared.step.StepOutcome.{StepOutcome}
 use Rattle.virtqueue.specs.declared.step.StepOutcome.the-variants.{Refused, Idle, Served}
-use Rattle.virtqueue.proofs.GuestLaws.{all-each}
-use Rattle.virtqueue.proofs.ReachLaws.{all-true}
+use Rattle.guest_view.proofs.GuestLaws.{all-each}
+use Rattle.guest_view.proofs.ReachLaws.{all-true}
 use Rattle.virtqueue.proofs.ReachedLaws.{Every, every-append, every-weaken, map-same, Reaches, every-address, number-same, Whole, every-byte, Judged, every-readable, every-writable, chain-judged}
 use Rattle.virtqueue.proofs.TreeLaws.{view-leaf}
 
@@ -65,7 +66,7 @@ comes-judged g memory q = go (eqb (q .stop) 0) (noticesOf g memory q) (headOf g 
 pub record Serving (g : Guest) (d : MemoryDevice) (q : SplitQueue) (memory : List ℕ) (c : Chain) (after : List ℕ) : Type 0 where
   pub ring : allReach (g .reach) (ringEntry q) 2 ≡ true
   pub used : usedReached g q ≡ true
-  pub left : after ≡ servedMemory (g .place) d q (numberAt (g .place) memory (ringEntry q) 2) (requestBytes (g .place) memory c) (responsePlaces (g .place) c) memory
+  pub left : after ≡ servedMemory memory (responsePlaces (g .place) c) (carrying d (requestBytes (g .place) memory c) .response) (usedPlaces (g .place) q) (usedBytes (q .«next_used») (numberAt (g .place) memory (ringEntry q) 2))
 
 unserved : {P : Type 0} (k : ℕ) (b : Bool) → Refused k ≡ Served b → P
 unserved k b e = absurd (let z : _≡_ {A = ℕ} 0 1 = cc in omega arith)
@@ -75,7 +76,7 @@ unidle b e = absurd (let z : _≡_ {A = ℕ} 0 1 = cc in omega arith)
 
 serving : (g : Guest) (d : MemoryDevice) (q : SplitQueue) (memory : List ℕ) (b : Bool) → finished g d q memory (offered g memory q) .result .outcome ≡ Served b
     → Serving g d q memory (comesTo g memory q) (finished g d q memory (offered g memory q) .memory)
-unfolding offered comesTo servedResult offerChain headOf
+unfolding offered comesTo offerChain headOf
 serving g d q memory b e = go (eqb (q .stop) 0) (noticesOf g memory q) e
   where
     at : ℕ
@@ -105,13 +106,11 @@ serving g d q memory b e = go (eqb (q .stop) 0) (noticesOf g memory q) e
 
 -- a step that is not served leaves memory as it was
 idle-kept : (g : Guest) (d : MemoryDevice) (q : SplitQueue) (memory : List ℕ) (o : Offer) → finished g d q memory o .result .outcome ≡ Idle → finished g d q memory o .memory ≡ memory
-unfolding servedResult
 idle-kept g d q memory (stop k) e = refl
 idle-kept g d q memory idle e = refl
 idle-kept g d q memory (ready h n c) e = unidle n (sym e)
 
 refused-kept : (g : Guest) (d : MemoryDevice) (q : SplitQueue) (memory : List ℕ) (k : ℕ) (o : Offer) → finished g d q memory o .result .outcome ≡ Refused k → finished g d q memory o .memory ≡ memory
-unfolding servedResult
 refused-kept g d q memory k (stop j) e = refl
 refused-kept g d q memory k idle e = refl
 refused-kept g d q memory k (ready h n c) e = unserved k n (sym e)
@@ -135,7 +134,7 @@ leaf-place m d (At n o) h = rw (go (eqb (region m n .kind) ram) (eqb (region m n
 
 module _ (m : RegionMap) (size : ℕ) (ok : Accepted m size) (few : length (flatList m) ≤ 256) (d : MemoryDevice) where
   abbrev view : FlatView
-  view = viewOf (flatList m)
+  view = viewHolding (flatList m)
 
   abbrev g : Guest
   g = byView view d
@@ -163,7 +162,7 @@ module _ (m : RegionMap) (size : ℕ) (ok : Accepted m size) (few : length (flat
 
   -- memory after a served step, by the tree
   memory-led : (q : SplitQueue) (memory : List ℕ) (c : Chain) (after : List ℕ) → Judged (g .reach) c → Serving g d q memory c after → after ≡ treeMemory m d q memory c
-  unfolding servedMemory requestBytes responsePlaces usedPlaces usedReached
+  unfolding carrying requestBytes responsePlaces usedPlaces usedReached
   memory-led q memory c after j s =
       let one = bytes-led memory (firstBytes 24 (readable c)) (every-byte (g .reach) 24 (readable c) (every-readable (g .reach) c j)) in
       let two = places-led (firstBytes 10 (writable c)) (every-byte (g .reach) 10 (writable c) (every-writable (g .reach) c j)) in
@@ -216,5 +215,5 @@ demand3 m size ok made d q memory = go (decLt 256 (length (flatList m)))
     go (yes h) = absurd (let e : plain 12 ≡ accepted = sym (ap (λ (o : Outcome). o .reply) (refused-12 m size ok h)) ∙ made in let z : _≡_ {A = ℕ} 0 1 = cc in omega arith)
     go (no h) =
         let few : length (flatList m) ≤ 256 = omega arith in
-        let e : flattened m size .view ≡ viewOf (flatList m) = ap (λ (o : Outcome). o .view) (demand3-first-half m size ok few .0) in
+        let e : flattened m size .view ≡ viewHolding (flatList m) = ap (λ (o : Outcome). o .view) (demand3-first-half m size ok few .0) in
         subst (λ (v : FlatView). SecondHalf m v d q memory) (sym e) (demand3-second-half m size ok few d q memory)

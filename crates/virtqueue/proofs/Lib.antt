@@ -1,22 +1,18 @@
 pub mod ChainLaws
 pub mod Demand2
 pub mod Demand3
-pub mod FindLaws
-pub mod GuestLaws
+pub mod DeviceLaws
 pub mod MadeView
-pub mod MemoryLaws
 pub mod QueueLaws
-pub mod ReachLaws
 pub mod ReachedLaws
 pub mod RouteAllLaws
 pub mod RouteLaws
-pub mod RuleLaws
+pub mod RouteRefused
 pub mod RunLaws
 pub mod RunSteps
 pub mod StepLaws
-mod StretchLaws
 pub mod TakeLaws
 pub mod TreeLaws
+pub mod ValueLaws
 pub mod ViewWords
-pub mod WordLaws
 pub mod Worked

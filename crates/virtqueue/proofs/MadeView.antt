@@ -9,24 +9,26 @@ use native.Mathlib.Omega.{arith}
 use lib.Dec.{eqb, ltb}
 use lib.ListN.{length, getD, replicate, List·getD-append}
 use borrow.Author.Tests.{lt-ltb, eq-eqb, ne-eqb, eqb-true, eqb-false}
-use Rattle.region_map.specs.Map.{ram, mmio, managed, region}
+use Rattle.map_records.specs.Map.{ram, mmio, managed, region}
 use Rattle.region_map.specs.Check.{Accepted}
 use Rattle.region_map.specs.FlatList.{answerOf, lookup, Entry, Chain, Longest}
-use Rattle.region_map.specs.Flatten.{backingOf, flatList, noRange, viewOf}
-use Rattle.region_map.specs.ViewRules.{rangeOf, lastOffset, LawfulRange, Lawful}
-use Rattle.region_map.specs.declared.map.RegionMap.{RegionMap}
-use Rattle.region_map.specs.declared.view.FlatRange.{FlatRange}
-use Rattle.region_map.specs.declared.view.FlatView.{FlatView}
+use Rattle.region_map.specs.Flatten.{backingOf, flatList, viewHolding}
+use Rattle.map_records.specs.View.{noRange}
+use Rattle.region_map.specs.ViewRules.{LawfulRange, Lawful}
+use Rattle.map_records.specs.View.{rangeOf, lastOffset}
+use Rattle.map_records.specs.declared.map.RegionMap.{RegionMap}
+use Rattle.map_records.specs.declared.view.FlatRange.{FlatRange}
+use Rattle.map_records.specs.declared.view.FlatView.{FlatView}
 use Rattle.region_map.specs.declared.flat.Backing.{Backing}
 use Rattle.region_map.proofs.Accepted.{accepted-sound}
 use Rattle.region_map.proofs.LeafLaws.{root-leaf}
 use Rattle.region_map.proofs.UniqueLaws.{sound, here, later}
 use Rattle.region_map.proofs.Demand3.{list-gives, list-longest, made-lawful}
 use Rattle.memory_device.specs.SetUp.{managedIn, regionSize}
-use Rattle.memory_device.specs.declared.device.MemoryDevice.{MemoryDevice}
-use Rattle.memory_device.proofs.TableLaws.{all-of}
-use Rattle.virtqueue.specs.View.{kindOk, memoryOk, managedOk, pairOk, entryOk, viewOk, noRegionBound}
-use Rattle.virtqueue.proofs.RuleLaws.{range-of, agree-of, pair-of, entry-of, view-of}
+use Rattle.device_words.specs.Device.{MemoryDevice}
+use Rattle.device_words.proofs.TableLaws.{all-of}
+use Rattle.guest_view.specs.View.{kindOk, memoryOk, managedOk, pairOk, entryOk, viewOk, noRegionBound}
+use Rattle.guest_view.proofs.RuleLaws.{range-of, agree-of, pair-of, entry-of, view-of}
 
 -- a range of a list of longest runs: it carries its region's values, and the list gives its last address its last offset
 module _ (backing : ℕ → Backing) where
@@ -59,12 +61,12 @@ managed-size m (suc c) n h e single =
 
 module _ (m : RegionMap) (memory : ℕ) (ok : Accepted m memory) (few : length (flatList m) ≤ 256) where
   -- a managed range lies in the managed region
-  managed-inside : (k : ℕ) → k < viewOf (flatList m) .count → rangeOf (viewOf (flatList m)) k .kind ≡ managed → lastOffset (rangeOf (viewOf (flatList m)) k) < regionSize m
-  unfolding viewOf
+  managed-inside : (k : ℕ) → k < viewHolding (flatList m) .count → rangeOf (viewHolding (flatList m)) k .kind ≡ managed → lastOffset (rangeOf (viewHolding (flatList m)) k) < regionSize m
+  unfolding viewHolding
   managed-inside k h e = go (getD (flatList m) k noRange) (List·getD-append (flatList m) (replicate (256 - length (flatList m)) noRange) noRange k h) (run-of (backingOf m) (flatList m) k (list-longest m) h) e
     where
-      go : (r : FlatRange) → rangeOf (viewOf (flatList m)) k ≡ r → Entry (backingOf m) r × (lookup (flatList m) (r .last .0) ≡ answerOf r (r .last .0))
-          → rangeOf (viewOf (flatList m)) k .kind ≡ managed → lastOffset (rangeOf (viewOf (flatList m)) k) < regionSize m
+      go : (r : FlatRange) → rangeOf (viewHolding (flatList m)) k ≡ r → Entry (backingOf m) r × (lookup (flatList m) (r .last .0) ≡ answerOf r (r .last .0))
+          → rangeOf (viewHolding (flatList m)) k .kind ≡ managed → lastOffset (rangeOf (viewHolding (flatList m)) k) < regionSize m
       go r is q e =
           let leaf = root-leaf m memory ok (r .last .0) (r .region) (record { 0 = lastOffset r }) (sym (list-gives m (r .last .0)) ∙ q .1) in
           let kind : region m (r .region) .kind ≡ managed = sym (q .0 .kind) ∙ ap (λ (x : FlatRange). x .kind) (sym is) ∙ e in
@@ -73,9 +75,9 @@ module _ (m : RegionMap) (memory : ℕ) (ok : Accepted m memory) (few : length (
           subst (λ (x : FlatRange). lastOffset x < regionSize m) (sym is) (omega (arith, size))
 
   -- with any bound that the managed ranges keep
-  made-ok : (bound : ℕ) → ((k : ℕ) → k < viewOf (flatList m) .count → rangeOf (viewOf (flatList m)) k .kind ≡ managed → lastOffset (rangeOf (viewOf (flatList m)) k) < bound)
-      → viewOk (viewOf (flatList m)) memory bound ≡ true
-  made-ok bound managed-in = go (viewOf (flatList m)) (made-lawful m memory ok few) managed-in
+  made-ok : (bound : ℕ) → ((k : ℕ) → k < viewHolding (flatList m) .count → rangeOf (viewHolding (flatList m)) k .kind ≡ managed → lastOffset (rangeOf (viewHolding (flatList m)) k) < bound)
+      → viewOk (viewHolding (flatList m)) memory bound ≡ true
+  made-ok bound managed-in = go (viewHolding (flatList m)) (made-lawful m memory ok few) managed-in
     where
       kind-ok : (r : FlatRange) → LawfulRange m memory r → kindOk r ≡ true
       kind-ok r f = pick (eqb (r .kind) ram) refl (eqb (r .kind) mmio) refl
@@ -109,9 +111,9 @@ module _ (m : RegionMap) (memory : ℕ) (ok : Accepted m memory) (few : length (
           pair-of (rangeOf v j) (rangeOf v k) (l .ascending j k p h) (agree-of (rangeOf v j) (rangeOf v k) (l .kinds j k q h) (l .bases j k q h))))))
 
   -- 27 over the same memory, with a device of the map's managed region
-  pub made-view-kept : (d : MemoryDevice) → d .«region_size» ≡ regionSize m → viewOk (viewOf (flatList m)) memory (d .«region_size») ≡ true
+  pub made-view-kept : (d : MemoryDevice) → d .«region_size» ≡ regionSize m → viewOk (viewHolding (flatList m)) memory (d .«region_size») ≡ true
   made-view-kept d e = rw e (made-ok (regionSize m) managed-inside)
 
   -- and without a device
-  pub made-view-kept-alone : viewOk (viewOf (flatList m)) memory noRegionBound ≡ true
+  pub made-view-kept-alone : viewOk (viewHolding (flatList m)) memory noRegionBound ≡ true
   made-view-kept-alone = made-ok noRegionBound (λ k h e. made-lawful m memory ok few .each k h .offset)

@@ -4,11 +4,10 @@ use mathlib.Core.Bool.{Bool, true, false, cond, _&&_, _||_}
 use mathlib.Core.List.{List, [], _∷_, _++_, map}
 use Prim.Native.Nat.{ℕ, zero, suc, _+_, _-_, _*_, _≤_, _<_, min}
 use native.Mathlib.Omega.{arith}
-use lib.Dec.{ltb}
 use lib.ListN.{getD}
 use Rattle.region_map.proofs.Bools.{and-fst, and-snd}
-use Rattle.virtqueue.specs.Guest.{Guest, allReach, addresses, byteAt, numberAt}
-use Rattle.virtqueue.specs.Chain.{Chain, whole, ended, refused, element, misplaced, hasNext, isWritable, visit, follow, readable, writable, firstBytes, fetched, reached, chainAt}
+use Rattle.guest_view.specs.Guest.{Guest, allReach, addresses, byteAt, numberAt}
+use Rattle.virtqueue.specs.Chain.{Chain, whole, ended, refused, element, Following, onward, astray, nextBelow, goOn, misplaced, hasNext, isWritable, visit, follow, readable, writable, firstBytes, fetched, reached, chainAt}
 use Rattle.virtqueue.specs.declared.chain.Descriptor.{Descriptor}
 use Rattle.virtqueue.specs.declared.chain.Fetched.{Fetched}
 use Rattle.virtqueue.specs.declared.chain.Fetched.the-variants.{Out, Here}
@@ -72,26 +71,26 @@ module _ (reach : ℕ → Bool) where
   abbrev test : Descriptor → Bool
   test d = allReach reach (d .addr .0) (d .length)
 
-  visit-judged : (size : ℕ) (late : Bool) (rest : ℕ → Bool → Chain) → ((i : ℕ) (w : Bool) → Judged (rest i w)) → (x : Fetched) → Judged (visit test size late rest x)
+  visit-judged : (next : Descriptor → ℕ → Following) (i : ℕ) (late : Bool) (rest : ℕ → Bool → Chain) → ((j : ℕ) (w : Bool) → Judged (rest j w)) → (x : Fetched) → Judged (visit test next i late rest x)
   unfolding visit
-  visit-judged size late rest f Out = tt
-  visit-judged size late rest f (Here d) = go (misplaced late d) (test d) refl
+  visit-judged next i late rest f Out = tt
+  visit-judged next i late rest f (Here d) = go (misplaced late d) (test d) refl
     where
-      on : (x y : Bool) → Judged (cond x (cond y (rest (d .next) (isWritable d)) (ended 20)) whole)
-      on true true = f (d .next) (isWritable d)
-      on true false = tt
-      on false y = tt
+      on : (x : Bool) (n : Following) → Judged (cond x (goOn (λ j. rest j (isWritable d)) n) whole)
+      on true (onward j) = f j (isWritable d)
+      on true astray = tt
+      on false n = tt
 
       go : (x y : Bool) → test d ≡ y
-          → Judged (cond x (ended 20) (cond y (element d (cond (hasNext d) (cond (ltb (d .next) size) (rest (d .next) (isWritable d)) (ended 20)) whole)) (refused d)))
+          → Judged (cond x (ended 20) (cond y (element d (cond (hasNext d) (goOn (λ j. rest j (isWritable d)) (next d i)) whole)) (refused d)))
       go true y e = tt
-      go false true e = (e, on (hasNext d) (ltb (d .next) size))
+      go false true e = (e, on (hasNext d) (next d i))
       go false false e = e
 
-  pub follow-judged : (fetch : ℕ → Fetched) (size left i : ℕ) (late : Bool) → Judged (follow fetch test size left i late)
+  pub follow-judged : (fetch : ℕ → Fetched) (next : Descriptor → ℕ → Following) (left i : ℕ) (late : Bool) → Judged (follow fetch test next left i late)
   unfolding follow
-  follow-judged fetch size zero i late = tt
-  follow-judged fetch size (suc left) i late = visit-judged size late (follow fetch test size left) (λ j w. follow-judged fetch size left j w) (fetch i)
+  follow-judged fetch next zero i late = tt
+  follow-judged fetch next (suc left) i late = visit-judged next i late (follow fetch test next left) (λ j w. follow-judged fetch next left j w) (fetch i)
 
   pub every-readable : (c : Chain) → Judged c → Every Whole (readable c)
   unfolding readable
@@ -118,4 +117,4 @@ module _ (reach : ℕ → Bool) where
 -- the chain of a guest's table
 pub chain-judged : (g : Guest) (memory : List ℕ) (table size head : ℕ) → Judged (g .reach) (chainAt g memory table size head)
 unfolding chainAt
-chain-judged g memory table size head = follow-judged (g .reach) (fetched g memory table) size size head false
+chain-judged g memory table size head = follow-judged (g .reach) (fetched g memory table) (nextBelow size) size head false

@@ -7,22 +7,22 @@ use native.Mathlib.Nat.{add-zero, add-suc, suc-add}
 use native.Mathlib.Numerals.{add-one}
 use native.Mathlib.Omega.{arith}
 use lib.Dec.{eqb}
-use lib.ListN.{length, set, getD, length-append, drop-of-length-le}
+use lib.ListN.{replicate, length, set, getD, length-append, drop-of-length-le}
 use lib.Seq.{sets, sets-eq}
 use borrow.Author.Tests.{eqb-true, eqb-false, eq-eqb, ne-eqb}
-use Rattle.region_map.proofs.Bools.{and-fst, and-snd}
-use Rattle.region_map.specs.Flatten.{entries}
-use Rattle.region_map.specs.declared.view.FlatView.{FlatView}
-use Rattle.memory_device.specs.Device.{deviceOk}
-use Rattle.memory_device.specs.Host.{pluggedAt}
-use Rattle.memory_device.specs.declared.device.MemoryDevice.{MemoryDevice}
-use Rattle.virtqueue.specs.Guest.{leafAt}
-use Rattle.virtqueue.specs.View.{viewOk, noRegionBound}
+use Rattle.region_map.proofs.Bools.{and-fst, and-snd, and-true, and-off}
+use Rattle.map_records.specs.View.{entries}
+use Rattle.map_records.specs.declared.view.FlatView.{FlatView}
+use Rattle.device_words.specs.Device.{MemoryDevice, deviceOk, pluggedIn}
+use Rattle.device_words.specs.Words.{deviceOf}
+use Rattle.device_words.proofs.DeviceWords.{device-at, plugged-length}
+use Rattle.device_words.proofs.RuleLaws.{device-valid}
+use Rattle.guest_view.specs.Guest.{leafAt}
+use Rattle.guest_view.specs.View.{viewOk, noRegionBound}
 use Rattle.virtqueue.specs.Route.{routed, routedWith, routedWithout, answerWords, answersTo, answersFit, allRouted, allWith, allWithout}
-use Rattle.virtqueue.specs.Contracts.{noDevice}
 use Rattle.virtqueue.specs.declared.route.RouteAnswer.{RouteAnswer}
 use Rattle.virtqueue.specs.declared.route.RouteAnswer.the-variants.{Refused, Memory, Port}
-use Rattle.region_map.proofs.StoreLaws.{stored, sets-append, over}
+use Rattle.map_records.proofs.StoreLaws.{stored, sets-append, over}
 use Rattle.virtqueue.proofs.RouteLaws.{nothing-plugged}
 
 -- ---- do the answers fit the accesses?
@@ -101,24 +101,61 @@ module _ (ok : Bool) (f : ℕ → ℕ → RouteAnswer) (accesses answers : List 
   unfolding allRouted
   all-answered e g s = rw (e, s)
 
-module _ (v : FlatView) (memory : ℕ) (accesses answers : List ℕ) where
-  judged-with : (d : MemoryDevice) → (viewOk v memory (d .«region_size») && deviceOk d) ≡ true → routedWith v memory d ≡ routed (leafAt (entries v)) (pluggedAt d)
+-- ---- a device whose words 27 accepts
+module _ (words : List ℕ) (size : length words ≡ 37) (ok : deviceOk (deviceOf words) ≡ true) where
+  pub block-big : (block : ℕ) → block ≡ deviceOf words .«block_size» → 8 ≤ block
+  block-big block e = omega (arith, device-valid (deviceOf words) ok .least)
+
+  pub table-words : (table : List ℕ) → table ≡ deviceOf words .plugged → length table ≡ 16
+  table-words table e = ap length e ∙ ap (λ (d : MemoryDevice). length (d .plugged)) (device-at words size) ∙ plugged-length words size
+
+-- ---- 27 first, then the access
+module _ (v : FlatView) (memory : ℕ) (d : MemoryDevice) where
+  pub view-and-device : viewOk v memory (d .«region_size») ≡ true → deviceOk d ≡ true → (viewOk v memory (d .«region_size») && deviceOk d) ≡ true
+  view-and-device p q = and-true (viewOk v memory (d .«region_size»)) (deviceOk d) p q
+
+  pub device-off : deviceOk d ≡ false → (viewOk v memory (d .«region_size») && deviceOk d) ≡ false
+  device-off q = ap (λ (x : Bool). viewOk v memory (d .«region_size») && x) q ∙ and-off (viewOk v memory (d .«region_size»))
+
+  pub view-off : viewOk v memory (d .«region_size») ≡ false → (viewOk v memory (d .«region_size») && deviceOk d) ≡ false
+  view-off p = ap (λ (x : Bool). x && deviceOk d) p
+
+  -- the view or what goes with it was refused, before the device is asked
+  pub one-off : (fit : Bool) → (viewOk v memory (d .«region_size») && fit) ≡ false → ((viewOk v memory (d .«region_size») && deviceOk d) && fit) ≡ false
+  one-off fit = go (viewOk v memory (d .«region_size»)) (deviceOk d)
+    where
+      go : (x y : Bool) → (x && fit) ≡ false → ((x && y) && fit) ≡ false
+      go true true e = e
+      go true false e = refl
+      go false y e = refl
+
+  pub refused-with : (viewOk v memory (d .«region_size») && deviceOk d) ≡ false → (a w : ℕ) → Refused 27 ≡ routedWith v memory d a w
   unfolding routedWith
-  judged-with d e = fun-ext (λ a. fun-ext (λ w. rw e))
+  refused-with e a w = rw e
 
-  judged-without : viewOk v memory noRegionBound ≡ true → routedWithout v memory ≡ routed (leafAt (entries v)) (pluggedAt noDevice)
+  module _ (block : ℕ) (table : List ℕ) (is : block ≡ d .«block_size») (holds : table ≡ d .plugged) (ok : (viewOk v memory (d .«region_size») && deviceOk d) ≡ true) where
+    pub judged-with : routedWith v memory d ≡ routed (leafAt (entries v)) (pluggedIn block table)
+    unfolding routedWith
+    judged-with = fun-ext (λ a. fun-ext (λ w. rw (ok, is, holds)))
+
+    pub answered-with : (accesses answers : List ℕ) → answersFit accesses answers ≡ true
+        → allWith v memory d accesses answers ≡ record { number = 0; answers = answersTo (routed (leafAt (entries v)) (pluggedIn block table)) accesses 0 (length accesses / 2) }
+    answered-with accesses answers fit =
+        let both = viewOk v memory (d .«region_size») && deviceOk d in
+        all-answered both (routedWith v memory d) accesses answers (and-true both (answersFit accesses answers) ok fit) (routed (leafAt (entries v)) (pluggedIn block table)) judged-with
+
+module _ (v : FlatView) (memory : ℕ) where
+  pub refused-without : viewOk v memory noRegionBound ≡ false → (a w : ℕ) → Refused 27 ≡ routedWithout v memory a w
   unfolding routedWithout
-  judged-without e = fun-ext (λ a. fun-ext (λ w. rw (e, nothing-plugged)))
+  refused-without e a w = rw e
 
-  pub answered-with : (d : MemoryDevice) → ((viewOk v memory (d .«region_size») && deviceOk d) && answersFit accesses answers) ≡ true
-      → allWith v memory d accesses answers ≡ record { number = 0; answers = answersTo (routed (leafAt (entries v)) (pluggedAt d)) accesses 0 (length accesses / 2) }
-  answered-with d e =
-      let ok = viewOk v memory (d .«region_size») && deviceOk d in
-      all-answered ok (routedWith v memory d) accesses answers e (routed (leafAt (entries v)) (pluggedAt d)) (judged-with d (and-fst ok (answersFit accesses answers) e))
+  pub judged-without : (block : ℕ) → viewOk v memory noRegionBound ≡ true → routedWithout v memory ≡ routed (leafAt (entries v)) (pluggedIn block (replicate 16 0))
+  unfolding routedWithout
+  judged-without block e = fun-ext (λ a. fun-ext (λ w. rw (e, nothing-plugged block)))
 
-  pub answered-without : (viewOk v memory noRegionBound && answersFit accesses answers) ≡ true → (d : MemoryDevice) → d ≡ noDevice
-      → allWithout v memory accesses answers ≡ record { number = 0; answers = answersTo (routed (leafAt (entries v)) (pluggedAt d)) accesses 0 (length accesses / 2) }
-  answered-without e d q =
+  pub answered-without : (block : ℕ) (accesses answers : List ℕ) → (viewOk v memory noRegionBound && answersFit accesses answers) ≡ true
+      → allWithout v memory accesses answers ≡ record { number = 0; answers = answersTo (routed (leafAt (entries v)) (pluggedIn block (replicate 16 0))) accesses 0 (length accesses / 2) }
+  answered-without block accesses answers e =
       let ok = viewOk v memory noRegionBound in
-      all-answered ok (routedWithout v memory) accesses answers e (routed (leafAt (entries v)) (pluggedAt d))
-      (judged-without (and-fst ok (answersFit accesses answers) e) ∙ ap (λ (x : MemoryDevice). routed (leafAt (entries v)) (pluggedAt x)) (sym q))
+      all-answered ok (routedWithout v memory) accesses answers e (routed (leafAt (entries v)) (pluggedIn block (replicate 16 0)))
+      (judged-without block (and-fst ok (answersFit accesses answers) e))

@@ -3,34 +3,35 @@ use mathlib.Core.Path.{_≡_, refl, sym, ap, _∙_, ap₂, fun-ext}
 use mathlib.Core.Bool.{Bool, true, false, cond, _&&_, _||_, not}
 use mathlib.Core.List.{List, [], _∷_}
 use mathlib.Core.Logic.{⊎-elim}
-use Prim.Native.Nat.{ℕ, zero, suc, _+_, _-_, _/_, _≤_, _<_}
+use Prim.Native.Nat.{ℕ, zero, suc, _+_, _-_, _/_, _%_, _≤_, _<_}
 use native.Mathlib.Nat.{eq-or-lt-of-le, div-lt-iff-lt-mul, div-add-mod', mod-lt, add-mul, add-zero}
 use native.Mathlib.Omega.{arith}
 use lib.Dec.{eqb}
-use lib.ListN.{length, getD}
+use lib.ListN.{length, getD, replicate}
 use lib.Seq.{getD-take, length-take-le}
 use borrow.Author.Tests.{eq-eqb, ne-eqb, eqb-true, not-true, not-false}
-use Rattle.region_map.specs.Map.{mmio, managed}
+use Rattle.map_records.specs.Map.{mmio, managed}
 use Rattle.region_map.specs.FlatList.{inside, lookup, answerOf}
-use Rattle.region_map.specs.Flatten.{entries, noRange}
-use Rattle.region_map.specs.ViewRules.{rangeOf}
+use Rattle.map_records.specs.View.{entries, noRange}
+use Rattle.map_records.specs.View.{rangeOf}
 use Rattle.region_map.specs.declared.resolve.Resolved.{Resolved}
 use Rattle.region_map.specs.declared.resolve.Resolved.the-variants as resolved
-use Rattle.region_map.specs.declared.view.FlatRange.{FlatRange}
-use Rattle.region_map.specs.declared.view.FlatView.{FlatView}
+use Rattle.map_records.specs.declared.view.FlatRange.{FlatRange}
+use Rattle.map_records.specs.declared.view.FlatView.{FlatView}
 use Rattle.region_map.proofs.Bools.{never, and-fst, and-snd}
-use Rattle.memory_device.specs.Table.{bitAt, allBelow}
-use Rattle.memory_device.specs.Host.{pluggedAt}
-use Rattle.memory_device.specs.declared.device.MemoryDevice.{MemoryDevice}
-use Rattle.memory_device.proofs.TableLaws.{all-true, all-of, all-not, zero-bit}
-use Rattle.memory_device.proofs.RuleLaws.{blocks-mono}
-use Rattle.virtqueue.specs.Guest.{Leaf, nowhere, leaf, leafIn, leafAt}
-use Rattle.virtqueue.specs.View.{viewOk, noRegionBound, lookedUp}
+use Rattle.device_words.specs.Table.{bitAt, allBelow}
+use Rattle.device_words.specs.Device.{pluggedIn}
+use Rattle.device_words.proofs.TableLaws.{all-true, all-of, all-not, zero-bit}
+use Rattle.device_words.proofs.RuleLaws.{blocks-mono}
+use Rattle.guest_view.specs.Guest.{Leaf, nowhere, leaf, leafIn, leafAt}
+use Rattle.guest_view.specs.View.{viewOk, noRegionBound}
+use Rattle.virtqueue.specs.Look.{lookedUp}
 use Rattle.virtqueue.specs.Route.{widthOk, isNowhere, follows, isOpen, target, routed}
-use Rattle.virtqueue.specs.Contracts.{Ordered, Spot, noDevice}
+use Rattle.guest_view.specs.Contracts.{Ordered, Spot}
 use Rattle.virtqueue.specs.declared.view.LookUp.the-variants as answer
 use Rattle.virtqueue.specs.declared.route.RouteAnswer.the-variants.{Refused, Memory, Port}
-use Rattle.virtqueue.proofs.FindLaws.{at-range}
+use Rattle.guest_view.proofs.FindLaws.{at-range}
+use Rattle.guest_view.proofs.ReachLaws.{same-block}
 
 -- ---- what a list gives an address, without the region's values
 
@@ -61,30 +62,38 @@ module _ (v : FlatView) (memory a : ℕ) where
     unfolding lookedUp
     looked-nothing h = rw (ok, lookup-leaf (entries v) a, s .missed h)
 
--- ---- two blocks tell of all that lies between, where no block is shorter than the access
+-- ---- the blocks of an access, where none is shorter than it
 
-pub plugged-ends : (d : MemoryDevice) (o w : ℕ) → 8 ≤ d .«block_size» → 0 < w → w ≤ 8
-    → (pluggedAt d o && pluggedAt d (o + (w - 1))) ≡ allBelow (λ i. pluggedAt d (o + i)) w
-plugged-ends d o w big some few = go (pluggedAt d o) refl (pluggedAt d (o + (w - 1))) refl
-  where
-    next : (o + (w - 1)) / d .«block_size» < o / d .«block_size» + 2
+module _ (block : ℕ) (table : List ℕ) (o w : ℕ) (big : 8 ≤ block) (some : 0 < w) (few : w ≤ 8) where
+  -- its first byte's block is not plugged
+  pub first-off : pluggedIn block table o ≡ false → allBelow (λ i. pluggedIn block table (o + i)) w ≡ false
+  first-off e = all-not (λ i. pluggedIn block table (o + i)) w 0 some (ap (pluggedIn block table) (add-zero o) ∙ e)
+
+  module _ (first : pluggedIn block table o ≡ true) where
+    -- it has no other
+    pub one-block : w - 1 ≤ block - 1 - o % block → allBelow (λ i. pluggedIn block table (o + i)) w ≡ true
+    one-block h = all-of (λ i. pluggedIn block table (o + i)) w (λ i l. ap (bitAt table) (same-block block o i (omega arith) (omega arith)) ∙ first)
+
+    -- or its last byte's
+    next : (o + (w - 1)) / block < o / block + 2
     next =
-        let b = d .«block_size» in
-        let pos : 0 < b = omega arith in
-        div-lt-iff-lt-mul pos .1 (omega (arith, div-add-mod' o b, mod-lt o pos, add-mul (o / b) 2 b))
+        let pos : 0 < block = omega arith in
+        div-lt-iff-lt-mul pos .1 (omega (arith, div-add-mod' o block, mod-lt o pos, add-mul (o / block) 2 block))
 
-    go : (x : Bool) → pluggedAt d o ≡ x → (y : Bool) → pluggedAt d (o + (w - 1)) ≡ y → (x && y) ≡ allBelow (λ i. pluggedAt d (o + i)) w
-    go true e true f = sym (all-of (λ i. pluggedAt d (o + i)) w (λ i h.
-        let b = d .«block_size» in
-        let low = blocks-mono b o (o + i) (omega arith) (omega arith) in
-        let high = blocks-mono b (o + i) (o + (w - 1)) (omega arith) (omega arith) in
-        ⊎-elim (λ (q : o / b ≡ (o + i) / b). ap (bitAt (d .plugged)) (sym q) ∙ e)
-        (λ lt. ap (bitAt (d .plugged)) (let z : (o + i) / b ≡ (o + (w - 1)) / b = omega (arith, next) in z) ∙ f) (eq-or-lt-of-le low)))
-    go true e false f = sym (all-not (λ i. pluggedAt d (o + i)) w (w - 1) (omega arith) f)
-    go false e y f = sym (all-not (λ i. pluggedAt d (o + i)) w 0 some (ap (pluggedAt d) (add-zero o) ∙ e))
+    pub two-blocks : pluggedIn block table (o + (w - 1)) ≡ allBelow (λ i. pluggedIn block table (o + i)) w
+    two-blocks = go (pluggedIn block table (o + (w - 1))) refl
+      where
+        go : (y : Bool) → pluggedIn block table (o + (w - 1)) ≡ y → y ≡ allBelow (λ i. pluggedIn block table (o + i)) w
+        go true f = sym (all-of (λ i. pluggedIn block table (o + i)) w (λ i h.
+            let low = blocks-mono block o (o + i) (omega arith) (omega arith) in
+            let high = blocks-mono block (o + i) (o + (w - 1)) (omega arith) (omega arith) in
+            ⊎-elim (λ (q : o / block ≡ (o + i) / block). ap (bitAt table) (sym q) ∙ first)
+            (λ lt. ap (bitAt table) (let z : (o + i) / block ≡ (o + (w - 1)) / block = omega (arith, next) in z) ∙ f) (eq-or-lt-of-le low)))
+        go false f = sym (all-not (λ i. pluggedIn block table (o + i)) w (w - 1) (omega arith) f)
 
-pub nothing-plugged : pluggedAt noDevice ≡ (λ o. false)
-nothing-plugged = fun-ext (λ o. zero-bit (o / 4096))
+-- no block of a table of zeros is plugged
+pub nothing-plugged : (block : ℕ) → pluggedIn block (replicate 16 0) ≡ (λ o. false)
+nothing-plugged block = fun-ext (λ o. zero-bit (o / block))
 
 -- ---- the bytes of an access
 
@@ -221,7 +230,7 @@ module _ (f : ℕ → Leaf) (p : ℕ → Bool) (a w : ℕ) where
 
 -- ---- and over a view
 
-module _ (v : FlatView) (d : MemoryDevice) (a w at : ℕ) (s : Spot v a at) (h : at < v .count) (full : v .count ≤ length (v .ranges)) (ordered : Ordered v) (width : widthOk w ≡ true)
+module _ (v : FlatView) (plugged : ℕ → Bool) (a w at : ℕ) (s : Spot v a at) (h : at < v .count) (full : v .count ≤ length (v .ranges)) (ordered : Ordered v) (width : widthOk w ≡ true)
     (r : Bool) (told : r ≡ allBelow (goesOn v a) w) where
   abbrev range : FlatRange
   range = rangeOf v at
@@ -229,9 +238,9 @@ module _ (v : FlatView) (d : MemoryDevice) (a w at : ℕ) (s : Spot v a at) (h :
   abbrev there : ℕ
   there = range .offset .0 + (a - range .first .0)
 
-  pub view-broken : not r ≡ true → routed (leafAt (entries v)) (pluggedAt d) a w ≡ Refused 25
+  pub view-broken : not r ≡ true → routed (leafAt (entries v)) plugged a w ≡ Refused 25
   view-broken off =
-      routed-broken (leafAt (entries v)) (pluggedAt d) a w width (range .region) (range .kind) (range .base) there (s .found h) (sym told ∙ not-true r off)
+      routed-broken (leafAt (entries v)) plugged a w width (range .region) (range .kind) (range .base) there (s .found h) (sym told ∙ not-true r off)
 
   module _ (on : not r ≡ false) where
     whole : allBelow (goesOn v a) w ≡ true
@@ -240,12 +249,12 @@ module _ (v : FlatView) (d : MemoryDevice) (a w at : ℕ) (s : Spot v a at) (h :
     kinds : (i k₂ b₂ o₂ : ℕ) → leafAt (entries v) (a + i) ≡ leaf (range .region) k₂ b₂ o₂ → k₂ ≡ range .kind
     kinds i k₂ b₂ o₂ = same-kind v full ordered a (a + i) (range .region) (range .kind) (range .base) there k₂ b₂ o₂ (s .found h)
 
-    pub view-port : range .kind ≡ mmio → routed (leafAt (entries v)) (pluggedAt d) a w ≡ Port (range .base) (record { 0 = there })
-    view-port = routed-port (leafAt (entries v)) (pluggedAt d) a w width (range .region) (range .kind) (range .base) there (s .found h) kinds whole
+    pub view-port : range .kind ≡ mmio → routed (leafAt (entries v)) plugged a w ≡ Port (range .base) (record { 0 = there })
+    view-port = routed-port (leafAt (entries v)) plugged a w width (range .region) (range .kind) (range .base) there (s .found h) kinds whole
 
-    pub view-unplugged : range .kind ≡ managed → allBelow (λ i. pluggedAt d (there + i)) w ≡ false → routed (leafAt (entries v)) (pluggedAt d) a w ≡ Refused 26
-    view-unplugged = routed-unplugged (leafAt (entries v)) (pluggedAt d) a w width (range .region) (range .kind) (range .base) there (s .found h) kinds whole
+    pub view-unplugged : range .kind ≡ managed → allBelow (λ i. plugged (there + i)) w ≡ false → routed (leafAt (entries v)) plugged a w ≡ Refused 26
+    view-unplugged = routed-unplugged (leafAt (entries v)) plugged a w width (range .region) (range .kind) (range .base) there (s .found h) kinds whole
 
-    pub view-memory : (range .kind ≡ mmio → ⊥) → (range .kind ≡ managed → allBelow (λ i. pluggedAt d (there + i)) w ≡ true)
-        → routed (leafAt (entries v)) (pluggedAt d) a w ≡ Memory (range .base + there)
-    view-memory = routed-memory (leafAt (entries v)) (pluggedAt d) a w width (range .region) (range .kind) (range .base) there (s .found h) kinds whole
+    pub view-memory : (range .kind ≡ mmio → ⊥) → (range .kind ≡ managed → allBelow (λ i. plugged (there + i)) w ≡ true)
+        → routed (leafAt (entries v)) plugged a w ≡ Memory (range .base + there)
+    view-memory = routed-memory (leafAt (entries v)) plugged a w width (range .region) (range .kind) (range .base) there (s .found h) kinds whole

@@ -5,27 +5,34 @@ use mathlib.Core.List.{List}
 use Prim.Native.Nat.{ℕ, suc, _+_, _-_, _≤_, _<_, min}
 use native.Mathlib.Omega.{arith}
 use lib.ListN.{length}
-use Rattle.region_map.specs.declared.view.FlatView.{FlatView}
-use Rattle.memory_device.specs.Device.{deviceOk}
-use Rattle.memory_device.specs.Request.{requestOf}
-use Rattle.memory_device.specs.declared.device.MemoryDevice.{MemoryDevice}
-use Rattle.memory_device.proofs.Kept.{change-kept}
-use Rattle.virtqueue.specs.Guest.{Guest, byView}
+use borrow.Author.Tests.{eqb-true}
+use Rattle.map_records.specs.declared.view.FlatView.{FlatView}
+use Rattle.device_words.specs.Device.{deviceOk}
+use Rattle.device_words.specs.Request.{requestOf}
+use Rattle.device_words.specs.Device.{MemoryDevice}
+use Rattle.device_words.proofs.Kept.{change-kept}
+use Rattle.device_words.proofs.DeviceWords.{record-back}
+use Rattle.guest_view.specs.Guest.{Guest, byView}
 use Rattle.virtqueue.specs.Queue.{queueOk}
-use Rattle.virtqueue.specs.Step.{Offer, stop, idle, ready, offered, requestBytes, Effect, servedResult, finished, steppedBy, recordsOk}
-use Rattle.virtqueue.specs.Run.{RunEffect, runEnds, goesOn, stepsFrom, ran}
+use Rattle.virtqueue.specs.Step.{Offer, stop, idle, ready, offered, requestBytes, carrying, Effect, finished, steppedBy, recordsOk}
+use Rattle.virtqueue.specs.Run.{RunEffect, runEnds, goesOn, stepsFrom, ran, RunLeaves}
 use Rattle.virtqueue.specs.declared.queue.SplitQueue.{SplitQueue}
 use Rattle.virtqueue.specs.declared.step.StepOutcome.{StepOutcome}
 use Rattle.virtqueue.specs.declared.step.StepOutcome.the-variants as outcome
-use Rattle.virtqueue.specs.declared.step.Stepped.{Stepped}
+use Rattle.virtqueue.specs.declared.step.Moved.{Moved}
+use Rattle.virtqueue.specs.declared.run.RunEnd.{RunEnd}
 use Rattle.virtqueue.specs.declared.run.RunEnd.the-variants as end
 use Rattle.virtqueue.specs.declared.run.Ran.{Ran}
+use Rattle.device_words.specs.Words.{deviceOf, deviceWords}
+use Rattle.virtqueue.specs.Moved.{laid}
+use Rattle.virtqueue.proofs.DeviceLaws.{tables, step-tables, words-of, laid-back, full}
+use Rattle.virtqueue.proofs.StepLaws.{Left}
 
 -- a step that is served keeps the device's and the queue's rules
 module _ (g : Guest) (d : MemoryDevice) (q : SplitQueue) (memory : List ℕ) (b : Bool) (h : deviceOk d ≡ true) (k : queueOk q ≡ true) where
   finish-kept : (x : Offer) → finished g d q memory x .result .outcome ≡ outcome.Served b
       → (deviceOk (finished g d q memory x .result .device) ≡ true) × (queueOk (finished g d q memory x .result .queue) ≡ true)
-  unfolding servedResult queueOk
+  unfolding carrying queueOk
   finish-kept (stop n) e = absurd (let z : _≡_ {A = ℕ} 0 1 = cc in omega arith)
   finish-kept idle e = absurd (let z : _≡_ {A = ℕ} 0 1 = cc in omega arith)
   finish-kept (ready n notify c) e = (change-kept d (requestOf (requestBytes (g .place) memory c)) h, k)
@@ -35,62 +42,92 @@ module _ (g : Guest) (d : MemoryDevice) (q : SplitQueue) (memory : List ℕ) (b 
   unfolding steppedBy
   step-kept e = finish-kept (offered g memory q) e
 
--- the state of the loop: what is left of the run from here is what the whole run comes to
-pub record Running (v : FlatView) (most : ℕ) (memory₀ : List ℕ) (d₀ : MemoryDevice) (q₀ : SplitQueue) (memory : List ℕ) (d : MemoryDevice) (q : SplitQueue) (served : ℕ) (notified : Bool) : Type 0 where
+-- the state of the loop, by the device's words: what is left of the run from here is what the whole run comes to
+pub record Running (v : FlatView) (most : ℕ) (memory₀ : List ℕ) (d₀ : MemoryDevice) (q₀ : SplitQueue) (memory w : List ℕ) (q : SplitQueue) (served : ℕ) (notified : Bool) : Type 0 where
   pub low : served ≤ most
   pub same : length memory ≡ length memory₀
-  pub device : deviceOk d ≡ true
+  pub words : length w ≡ 37
+  pub device : deviceOk (deviceOf w) ≡ true
   pub queue : queueOk q ≡ true
-  pub rest : stepsFrom v (most - served) served notified d q memory ≡ stepsFrom v most 0 false d₀ q₀ memory₀
+  pub rest : stepsFrom v (most - served) served notified (deviceOf w) q memory ≡ stepsFrom v most 0 false d₀ q₀ memory₀
 
-module _ (v : FlatView) (most : ℕ) (memory₀ : List ℕ) (d₀ : MemoryDevice) (q₀ : SplitQueue) where
-  pub run-starts : deviceOk d₀ ≡ true → queueOk q₀ ≡ true → Running v most memory₀ d₀ q₀ memory₀ d₀ q₀ 0 false
-  run-starts h k =
+-- what the loop leaves
+abbrev pub Ends : FlatView → ℕ → List ℕ → MemoryDevice → SplitQueue → ℕ → Bool → RunEnd → SplitQueue → List ℕ → List ℕ → Type 0
+Ends v most memory₀ d₀ q₀ served notified e q w memory =
+    runEnds served notified e (deviceOf w) q memory ≡ stepsFrom v most 0 false d₀ q₀ memory₀
+
+module _ (v : FlatView) (most : ℕ) (memory₀ w₀ : List ℕ) (q₀ : SplitQueue) where
+  pub run-starts : length w₀ ≡ 37 → deviceOk (deviceOf w₀) ≡ true → queueOk q₀ ≡ true → Running v most memory₀ (deviceOf w₀) q₀ memory₀ w₀ q₀ 0 false
+  run-starts l h k =
       let e : most - 0 ≡ most = omega arith in
-      record { low = omega arith; same = refl; device = h; queue = k; rest = rw e }
+      record { low = omega arith; same = refl; words = l; device = h; queue = k; rest = rw e }
 
-  module _ (memory : List ℕ) (d : MemoryDevice) (q : SplitQueue) (served : ℕ) (notified : Bool) (r : Running v most memory₀ d₀ q₀ memory d q served notified) where
-    pub run-all : most ≤ served → runEnds served notified end.AllDone d q memory ≡ stepsFrom v most 0 false d₀ q₀ memory₀
+module _ (v : FlatView) (most : ℕ) (memory₀ : List ℕ) (d₀ : MemoryDevice) (q₀ : SplitQueue)
+    (memory w : List ℕ) (q : SplitQueue) (served : ℕ) (notified : Bool) (r : Running v most memory₀ d₀ q₀ memory w q served notified) where
+  pub run-all : most ≤ served → Ends v most memory₀ d₀ q₀ served notified end.AllDone q w memory
+  unfolding stepsFrom
+  run-all l = let e : most - served ≡ 0 = omega (arith, r .low) in rw e at (r .rest)
+
+  module _ (l : served < most) (s : Moved) (x m : List ℕ) (left : Left v w q memory s x m) (z : length x ≡ length w) where
+    abbrev d : MemoryDevice
+    d = deviceOf w
+
+    -- the device after the step is what its words stand for
+    back : deviceOf x ≡ steppedBy (byView v d) d q memory .result .device
+    back =
+        let k = step-tables (byView v d) d q memory (tables w (r .words)) in
+        ap deviceOf (left .1) ∙ record-back (steppedBy (byView v d) d q memory .result .device) (k .0) (k .1)
+
+    abbrev effect : Effect
+    effect = record { result = record { outcome = s .outcome; device = deviceOf x; queue = s .queue }; memory = m }
+
+    is : effect ≡ steppedBy (byView v d) d q memory
+    is = λ i. record { result = record { outcome = left .0 i .outcome; device = back i; queue = left .0 i .queue }; memory = left .2 i }
+
+    run-step : (o : StepOutcome) → s .outcome ≡ o → goesOn served notified (stepsFrom v (most - (served + 1))) effect o ≡ stepsFrom v most 0 false d₀ q₀ memory₀
     unfolding stepsFrom
-    run-all l = let e : most - served ≡ 0 = omega (arith, r .low) in rw e at (r .rest)
+    run-step o g =
+        let p : most - served ≡ suc (most - (served + 1)) = omega arith in
+        let i = rw p at (r .rest) in
+        let h : steppedBy (byView v d) d q memory .result .outcome ≡ o = sym (ap (λ (e : Effect). e .result .outcome) is) ∙ g in
+        rw (is, ← h) i
 
-    module _ (l : served < most) (s : Stepped) (m : List ℕ) (e : s ≡ steppedBy (byView v d) d q memory .result) (f : m ≡ steppedBy (byView v d) d q memory .memory) where
-      abbrev effect : Effect
-      effect = record { result = s; memory = m }
+    pub run-refused : (n : ℕ) → s .outcome ≡ outcome.Refused n → Ends v most memory₀ d₀ q₀ served notified (end.Refused n) (s .queue) x m
+    run-refused n g = run-step (outcome.Refused n) g
 
-      run-step : (x : StepOutcome) → s .outcome ≡ x → goesOn served notified (stepsFrom v (most - (served + 1))) effect x ≡ stepsFrom v most 0 false d₀ q₀ memory₀
-      unfolding stepsFrom
-      run-step x g =
-          let p : most - served ≡ suc (most - (served + 1)) = omega arith in
-          let i = rw p at (r .rest) in
-          rw (← g, e, f) i
+    pub run-idle : s .outcome ≡ outcome.Idle → Ends v most memory₀ d₀ q₀ served notified end.Idle (s .queue) x m
+    run-idle g = run-step outcome.Idle g
 
-      pub run-refused : (n : ℕ) → s .outcome ≡ outcome.Refused n → runEnds served notified (end.Refused n) (s .device) (s .queue) m ≡ stepsFrom v most 0 false d₀ q₀ memory₀
-      run-refused n g = run-step (outcome.Refused n) g
-
-      pub run-idle : s .outcome ≡ outcome.Idle → runEnds served notified end.Idle (s .device) (s .queue) m ≡ stepsFrom v most 0 false d₀ q₀ memory₀
-      run-idle g = run-step outcome.Idle g
-
-      pub run-turn : (b : Bool) → s .outcome ≡ outcome.Served b → length m ≡ length memory → Running v most memory₀ d₀ q₀ m (s .device) (s .queue) (served + 1) (notified || b)
-      run-turn b g z =
-          let k = step-kept (byView v d) d q memory b (r .device) (r .queue) (sym (ap (λ (x : Stepped). x .outcome) e) ∙ g) in
-          record {
-            low = omega arith;
-            same = z ∙ r .same;
-            device = rw e (k .0);
-            queue = rw e (k .1);
-            rest = run-step (outcome.Served b) g;
-          }
+    pub run-turn : (b : Bool) → s .outcome ≡ outcome.Served b → length m ≡ length memory → Running v most memory₀ d₀ q₀ m x (s .queue) (served + 1) (notified || b)
+    run-turn b g y =
+        let k = step-kept (byView v d) d q memory b (r .device) (r .queue) (sym (ap (λ (e : Effect). e .result .outcome) is) ∙ g) in
+        record {
+          low = omega arith;
+          same = y ∙ r .same;
+          words = z ∙ r .words;
+          device = rw back (k .0);
+          queue = ap (λ (e : Effect). queueOk (e .result .queue)) is ∙ k .1;
+          rest = run-step (outcome.Served b) g;
+        }
 
 -- the run on records that keep 27's rules or not
-module _ (v : FlatView) (d : MemoryDevice) (q : SplitQueue) (memory : List ℕ) (k : ℕ) where
-  pub run-judged : recordsOk v d q (length memory) ≡ true → (most : ℕ) → most ≡ min k 256 → (r : Ran) (m : List ℕ)
-      → _≡_ {A = RunEffect} (record { result = r; memory = m }) (stepsFrom v most 0 false d q memory)
-      → (r ≡ ran v d q memory k .result) × (m ≡ ran v d q memory k .memory)
-  unfolding ran
-  run-judged h most e r m f = rw (h, ← e) (ap (λ (x : RunEffect). x .result) f, ap (λ (x : RunEffect). x .memory) f)
+abbrev pub RunLeft : FlatView → List ℕ → SplitQueue → List ℕ → ℕ → Ran → List ℕ → List ℕ → Type 0
+RunLeft v w q memory k r device m = RunLeaves w (ran v (deviceOf w) q memory k) r device m
 
-  pub run-refused-all : recordsOk v d q (length memory) ≡ false
-      → (_≡_ {A = Ran} (record { served = 0; notified = false; end = end.Refused 27; device = d; queue = q }) (ran v d q memory k .result)) × (memory ≡ ran v d q memory k .memory)
+module _ (v : FlatView) (w : List ℕ) (q : SplitQueue) (memory : List ℕ) (k : ℕ) where
+  pub run-judged : recordsOk v (deviceOf w) q (length memory) ≡ true → (most : ℕ) → most ≡ min k 256 → (served : ℕ) (notified : Bool) (e : RunEnd) (p : SplitQueue) (x m : List ℕ) → length x ≡ length w
+      → Ends v most memory (deviceOf w) q served notified e p x m
+      → RunLeft v w q memory k (record { served = served; notified = notified; end = e; queue = p }) x m
   unfolding ran
-  run-refused-all h = rw h (refl, refl)
+  run-judged h most e served notified o p x m l f =
+      let i = full v w q (length memory) h in
+      rw (h, ← e, i) (
+        ap (λ (y : RunEffect). y .result) f,
+        sym (words-of x (l ∙ eqb-true (length w) 37 i)) ∙ ap (λ (y : RunEffect). deviceWords (y .device)) f,
+        ap (λ (y : RunEffect). y .memory) f,
+      )
+
+  pub run-refused-all : recordsOk v (deviceOf w) q (length memory) ≡ false
+      → RunLeft v w q memory k (record { served = 0; notified = false; end = end.Refused 27; queue = q }) w memory
+  unfolding ran
+  run-refused-all h = rw h (refl, sym (laid-back w), refl)

@@ -5,17 +5,17 @@ use mathlib.Core.List.{List, [], _∷_}
 use Prim.Native.Nat.{ℕ, zero, suc, _+_}
 use native.Mathlib.Omega.{arith}
 use lib.ListN.{length, set, length-set}
-use Rattle.region_map.specs.declared.view.FlatView.{FlatView}
+use Rattle.map_records.specs.declared.view.FlatView.{FlatView}
 use Rattle.region_map.proofs.Bools.{and-fst, and-snd, and-true}
-use Rattle.memory_device.specs.Device.{deviceOk, withTables}
-use Rattle.memory_device.specs.Request.{requestOf, answered, isAck, acknowledged, changedBy, carriedOut}
-use Rattle.memory_device.specs.declared.device.MemoryDevice.{MemoryDevice}
-use Rattle.memory_device.specs.declared.request.Request.{Request}
-use Rattle.memory_device.specs.declared.request.Response.{Response}
-use Rattle.virtqueue.specs.Guest.{Guest, byView, written}
-use Rattle.virtqueue.specs.View.{viewOk}
+use Rattle.device_words.specs.Device.{deviceOk, withTables}
+use Rattle.device_words.specs.Request.{requestOf, answered, isAck, acknowledged, changedBy, carriedOut}
+use Rattle.device_words.specs.Device.{MemoryDevice}
+use Rattle.device_words.specs.declared.request.Request.{Request}
+use Rattle.device_words.specs.declared.request.Response.{Response}
+use Rattle.guest_view.specs.Guest.{Guest, written, byView}
+use Rattle.guest_view.specs.View.{viewOk}
 use Rattle.virtqueue.specs.Queue.{queueOk}
-use Rattle.virtqueue.specs.Step.{Offer, stop, idle, ready, offered, requestBytes, responsePlaces, usedPlaces, usedBytes, Effect, servedResult, servedMemory, finished, steppedBy, recordsOk, stepped}
+use Rattle.virtqueue.specs.Step.{Offer, stop, idle, ready, offered, requestBytes, responsePlaces, usedPlaces, usedBytes, carrying, Effect, finished, steppedBy, recordsOk, stepped}
 use Rattle.virtqueue.specs.Run.{RunEffect, runEnds, goesOn, stepsFrom, singleSteps, ran}
 use Rattle.virtqueue.specs.declared.queue.SplitQueue.{SplitQueue}
 use Rattle.virtqueue.specs.declared.step.StepOutcome.{StepOutcome}
@@ -40,15 +40,14 @@ region-kept d r x = go (isAck x)
 
 module _ (g : Guest) (d : MemoryDevice) (q : SplitQueue) (memory : List ℕ) where
   finish-length : (x : Offer) → length (finished g d q memory x .memory) ≡ length memory
-  unfolding servedMemory
   finish-length (stop k) = refl
   finish-length idle = refl
   finish-length (ready h n c) =
-      written-length (written memory (responsePlaces (g .place) c) (carriedOut d (requestOf (requestBytes (g .place) memory c)) .response)) _ _
-      ∙ written-length memory (responsePlaces (g .place) c) (carriedOut d (requestOf (requestBytes (g .place) memory c)) .response)
+      written-length (written memory (responsePlaces (g .place) c) (carrying d (requestBytes (g .place) memory c) .response)) _ _
+      ∙ written-length memory (responsePlaces (g .place) c) (carrying d (requestBytes (g .place) memory c) .response)
 
   finish-region : (x : Offer) → finished g d q memory x .result .device .«region_size» ≡ d .«region_size»
-  unfolding servedResult
+  unfolding carrying
   finish-region (stop k) = refl
   finish-region idle = refl
   finish-region (ready h n c) = region-kept d (requestOf (requestBytes (g .place) memory c)) (answered d (requestOf (requestBytes (g .place) memory c)))

@@ -10,34 +10,36 @@ use lib.ListN.{length, getD, set, replicate}
 use lib.Seq.{sets}
 use borrow.Author.Tests.{ltb-true}
 use Rattle.region_map.proofs.Bools.{and-fst, and-snd}
-use Rattle.region_map.specs.Flatten.{entries}
-use Rattle.region_map.specs.declared.view.FlatView.{FlatView}
-use Rattle.memory_device.specs.Bytes.{le}
-use Rattle.memory_device.specs.Device.{deviceOk}
-use Rattle.memory_device.specs.Host.{pluggedAt}
-use Rattle.memory_device.specs.Request.{responded}
-use Rattle.memory_device.specs.declared.device.MemoryDevice.{MemoryDevice}
-use Rattle.memory_device.specs.declared.request.Responded.{Responded}
-use Rattle.memory_device.proofs.AnswerLaws.{responded-valid}
-use Rattle.virtqueue.specs.Guest.{leafAt, Guest, byView, allReach, addresses, numberAt, written}
+use Rattle.map_records.proofs.StoreLaws.{sets-append, over}
+use Rattle.map_records.specs.View.{entries}
+use Rattle.map_records.specs.declared.view.FlatView.{FlatView}
+use Rattle.device_words.specs.Bytes.{le}
+use Rattle.device_words.specs.Device.{deviceOk}
+use Rattle.device_words.specs.Device.{pluggedAt}
+use Rattle.device_words.specs.Device.{MemoryDevice}
+use Rattle.guest_view.specs.Guest.{leafAt, Guest, allReach, addresses, numberAt, written, byView}
 use Rattle.virtqueue.specs.Queue.{queueOk, ringEntry, usedEntry, usedIdx, nextIndex, stoppedBy, advanced}
 use Rattle.virtqueue.specs.Chain.{Chain, writable, firstBytes, shapeOf}
-use Rattle.virtqueue.specs.Step.{noticesOf, headOf, chainOf, usedReached, Offer, stop, idle, ready, offerChain, offerHead, offerNotices, offered, requestBytes, responsePlaces, usedPlaces, usedBytes, servedResult, servedMemory, steppedBy, recordsOk, stepped}
-use Rattle.virtqueue.specs.View.{viewOk}
-use Rattle.virtqueue.specs.Contracts.{memoryLeaf, Ordered, Backed, Within, UsedIn, placeIn, Takes}
+use Rattle.virtqueue.specs.Step.{noticesOf, headOf, chainOf, usedReached, Offer, stop, idle, ready, offerChain, offerHead, offerNotices, offered, requestBytes, responsePlaces, usedPlaces, usedBytes, carrying, servedMemory, steppedBy, recordsOk, stepped}
+use Rattle.guest_view.specs.View.{viewOk}
+use Rattle.guest_view.specs.Contracts.{memoryLeaf, Ordered, Backed, InMemory, Within, placeIn}
+use Rattle.virtqueue.specs.Contracts.{UsedIn, Takes}
 use Rattle.virtqueue.specs.declared.queue.SplitQueue.{SplitQueue}
 use Rattle.virtqueue.specs.declared.take.AvailableNotices.{AvailableNotices}
 use Rattle.virtqueue.specs.declared.take.AvailableNotices.the-variants as notices
 use Rattle.virtqueue.specs.declared.take.HeadEntry.{HeadEntry}
 use Rattle.virtqueue.specs.declared.take.HeadEntry.the-variants as head
-use Rattle.virtqueue.specs.declared.take.Taken.{Taken}
+use Rattle.virtqueue.specs.declared.take.TakenOffer.{TakenOffer}
 use Rattle.virtqueue.specs.declared.take.TakenOffer.the-variants as offer
 use Rattle.virtqueue.specs.declared.step.StepOutcome.the-variants.{Refused, Idle, Served}
-use Rattle.virtqueue.specs.declared.step.Stepped.{Stepped}
-use Rattle.virtqueue.proofs.GuestLaws.{all-memory, reach-memory, place-below}
+use Rattle.virtqueue.specs.declared.step.Moved.{Moved}
+use Rattle.device_words.specs.Words.{deviceOf, deviceWords}
+use Rattle.virtqueue.specs.Moved.{moved, laid, Leaves, LeavesIn}
+use Rattle.virtqueue.proofs.DeviceLaws.{words-of, laid-back, full}
+use Rattle.guest_view.proofs.GuestLaws.{all-memory, reach-memory, place-below}
 use Rattle.virtqueue.proofs.QueueLaws.{queue-facts}
 use Rattle.virtqueue.proofs.ReachedLaws.{Every, every-append, every-weaken, Reaches, every-byte, every-writable, chain-judged}
-use Rattle.virtqueue.proofs.RuleLaws.{view-ordered, view-backed}
+use Rattle.guest_view.proofs.RuleLaws.{view-ordered, view-backed}
 
 -- the stores that make the used ring's bytes, and the copies that make their places
 pub used-stored : (h n count : ℕ) → h < 65536 → n ≡ nextIndex count
@@ -49,10 +51,20 @@ used-stored h n count l e =
     let r : n / 256 % 256 ≡ n / 256 = mod-eq-of-lt (omega arith) in
     rw (← e, p, q, r)
 
-pub used-copied : (place : ℕ → ℕ) (q : SplitQueue)
-    → sets (sets (replicate 10 0) 0 (map place (addresses (usedEntry q) 8))) 8 (map place (addresses (usedIdx q) 2)) ≡ usedPlaces place q
+pub used-bytes-length : (count h : ℕ) → length (usedBytes count h) ≡ 10
+unfolding usedBytes le
+used-bytes-length count h = refl
+
+pub used-laid : (place : ℕ → ℕ) (q : SplitQueue) (out : List ℕ) → length out ≡ 10
+    → sets (sets out 0 (map place (addresses (usedEntry q) 8))) 8 (map place (addresses (usedIdx q) 2)) ≡ usedPlaces place q
 unfolding usedPlaces addresses
-used-copied place q = refl
+used-laid place q out l =
+    sym (sets-append out 0 (map place (addresses (usedEntry q) 8)) (map place (addresses (usedIdx q) 2)))
+    ∙ over (map place (addresses (usedEntry q) 8 ++ addresses (usedIdx q) 2)) out l
+
+-- bytes in the memory, their address and their number told otherwise
+pub memory-as : (v : FlatView) (a b n m : ℕ) → a ≡ b → n ≡ m → InMemory v b m → InMemory v a n
+memory-as v a b n m e f p = rw (e, f) p
 
 -- a fact of each address of a stretch
 pub every-stretch : (P : ℕ → Type 0) (a n : ℕ) → ((i : ℕ) → i < n → P (a + i)) → Every P (addresses a n)
@@ -85,19 +97,6 @@ used-within v q n b u =
 
 pub within-moved : (ps qs : List ℕ) (n m : ℕ) → ps ≡ qs → m ≡ n → Within qs n → Within ps m
 within-moved ps qs n m e f w = rw (e, f) w
-
--- the response and the next device, and the result and the memory of a chain that was served
-module _ (d : MemoryDevice) (s : List ℕ) (r : Responded) (h : deviceOk d ≡ true) (e : r ≡ responded d s) where
-  pub served-result : (q p : SplitQueue) (notify : Bool) → p ≡ advanced q
-      → _≡_ {A = Stepped} (record { outcome = Served notify; device = r .device; queue = p }) (servedResult d q notify s)
-  unfolding servedResult
-  served-result q p notify f = rw (e, f, responded-valid d s h)
-
-  pub served-memory : (place : ℕ → ℕ) (q : SplitQueue) (head : ℕ) (places used bytes m₀ m₁ m₂ : List ℕ)
-      → used ≡ usedPlaces place q → bytes ≡ usedBytes (q .«next_used») head → m₁ ≡ written m₀ places (r .response) → m₂ ≡ written m₁ used bytes
-      → m₂ ≡ servedMemory place d q head s places m₀
-  unfolding servedMemory
-  served-memory place q head places used bytes m₀ m₁ m₂ f g i j = rw (j, i, f, g, e, responded-valid d s h)
 
 -- what a chain that is ready says
 pub record Readied (g : Guest) (memory : List ℕ) (q : SplitQueue) (h : ℕ) (c : Chain) : Type 0 where
@@ -153,8 +152,8 @@ unfolding usedReached
 used-in v d q h =
     let r = byView v d .reach in
     record {
-      entry = all-memory v d (usedEntry q) 8 (and-fst (allReach r (usedEntry q) 8) (allReach r (usedIdx q) 2) h);
-      idx = all-memory v d (usedIdx q) 2 (and-snd (allReach r (usedEntry q) 8) (allReach r (usedIdx q) 2) h);
+      entry = all-memory v (d .«block_size») (d .plugged) (usedEntry q) 8 (and-fst (allReach r (usedEntry q) 8) (allReach r (usedIdx q) 2) h);
+      idx = all-memory v (d .«block_size») (d .plugged) (usedIdx q) 2 (and-snd (allReach r (usedEntry q) 8) (allReach r (usedIdx q) 2) h);
     }
 
 pub ready-within : (v : FlatView) (d : MemoryDevice) (memory : List ℕ) (q : SplitQueue) (h : ℕ) (c : Chain) (n : ℕ)
@@ -169,46 +168,54 @@ ready-within v d memory q h c n b e =
     (every-byte r 10 (writable c) (every-writable r c (chain-judged (byView v d) memory (q .descriptors .0) (q .size) h)))))
 
 -- the offer that the reading half's answer stands for, and what the step then comes to
-pub taken-stop : (g : Guest) (memory : List ℕ) (x : Offer) (t : Taken) (k : ℕ) → Takes g memory x t → t .offer ≡ offer.Stop k → x ≡ stop k
-taken-stop g memory (stop j) t k h e = ap stop (let z : j ≡ k = cc in z)
-taken-stop g memory idle t k h e = absurd (let z : _≡_ {A = ℕ} 0 1 = cc in omega arith)
-taken-stop g memory (ready j b c) t k h e = absurd (let f = h .0 in let z : _≡_ {A = ℕ} 0 1 = cc in omega arith)
+module _ (g : Guest) (memory : List ℕ) (request places : List ℕ) where
+  pub taken-stop : (x : Offer) (t : TakenOffer) (k : ℕ) → Takes g memory x t request places → t ≡ offer.Stop k → x ≡ stop k
+  taken-stop (stop j) t k h e = ap stop (let z : j ≡ k = cc in z)
+  taken-stop idle t k h e = absurd (let z : _≡_ {A = ℕ} 0 1 = cc in omega arith)
+  taken-stop (ready j b c) t k h e = absurd (let f = h .0 in let z : _≡_ {A = ℕ} 0 1 = cc in omega arith)
 
-pub taken-idle : (g : Guest) (memory : List ℕ) (x : Offer) (t : Taken) → Takes g memory x t → t .offer ≡ offer.Idle → x ≡ idle
-taken-idle g memory (stop j) t h e = absurd (let z : _≡_ {A = ℕ} 0 1 = cc in omega arith)
-taken-idle g memory idle t h e = refl
-taken-idle g memory (ready j b c) t h e = absurd (let f = h .0 in let z : _≡_ {A = ℕ} 0 1 = cc in omega arith)
+  pub taken-idle : (x : Offer) (t : TakenOffer) → Takes g memory x t request places → t ≡ offer.Idle → x ≡ idle
+  taken-idle (stop j) t h e = absurd (let z : _≡_ {A = ℕ} 0 1 = cc in omega arith)
+  taken-idle idle t h e = refl
+  taken-idle (ready j b c) t h e = absurd (let f = h .0 in let z : _≡_ {A = ℕ} 0 1 = cc in omega arith)
 
-pub record TakenReady (g : Guest) (memory : List ℕ) (x : Offer) (t : Taken) (h : ℕ) (notify : Bool) : Type 0 where
-  pub chain : Chain
-  pub is : x ≡ ready h notify chain
-  pub request : t .request ≡ requestBytes (g .place) memory chain
-  pub places : t .places ≡ responsePlaces (g .place) chain
+  pub record TakenReady (x : Offer) (h : ℕ) (notify : Bool) : Type 0 where
+    pub chain : Chain
+    pub is : x ≡ ready h notify chain
+    pub «its-request» : request ≡ requestBytes (g .place) memory chain
+    pub «its-places» : places ≡ responsePlaces (g .place) chain
 
-pub taken-ready : (g : Guest) (memory : List ℕ) (x : Offer) (t : Taken) (h : ℕ) (notify : Bool) → Takes g memory x t → t .offer ≡ offer.Ready h notify → TakenReady g memory x t h notify
-taken-ready g memory (stop j) t h notify w e = absurd (let z : _≡_ {A = ℕ} 0 1 = cc in omega arith)
-taken-ready g memory idle t h notify w e = absurd (let z : _≡_ {A = ℕ} 0 1 = cc in omega arith)
-taken-ready g memory (ready j b c) t h notify w e =
-    let f = w .0 in
-    let p : j ≡ h = cc in
-    let q : b ≡ notify = cc in
-    record { chain = c; is = rw (p, q); request = w .1; places = w .2 }
+  pub taken-ready : (x : Offer) (t : TakenOffer) (h : ℕ) (notify : Bool) → Takes g memory x t request places → t ≡ offer.Ready h notify → TakenReady x h notify
+  taken-ready (stop j) t h notify w e = absurd (let z : _≡_ {A = ℕ} 0 1 = cc in omega arith)
+  taken-ready idle t h notify w e = absurd (let z : _≡_ {A = ℕ} 0 1 = cc in omega arith)
+  taken-ready (ready j b c) t h notify w e =
+      let f = w .0 in
+      let p : j ≡ h = cc in
+      let q : b ≡ notify = cc in
+      record { chain = c; is = rw (p, q); «its-request» = w .1; «its-places» = w .2 }
 
-module _ (v : FlatView) (d : MemoryDevice) (q : SplitQueue) (memory : List ℕ) (t : Taken)
-    (w : Takes (byView v d) memory (offered (byView v d) memory q) t) where
-  pub judged-stop : (k : ℕ) (p : SplitQueue) → t .offer ≡ offer.Stop k → p ≡ stoppedBy q k
-      → (_≡_ {A = Stepped} (record { outcome = Refused k; device = d; queue = p }) (steppedBy (byView v d) d q memory .result)) × (memory ≡ steppedBy (byView v d) d q memory .memory)
+-- What a step on records that were judged leaves: the answer, the device's words and memory.
+abbrev pub Left : FlatView → List ℕ → SplitQueue → List ℕ → Moved → List ℕ → List ℕ → Type 0
+Left v w q memory r device m = Leaves (steppedBy (byView v (deviceOf w)) (deviceOf w) q memory) r device m
+
+module _ (v : FlatView) (w : List ℕ) (l : length w ≡ 37) (q : SplitQueue) (memory : List ℕ) (t : TakenOffer) (request places : List ℕ)
+    (took : Takes (byView v (deviceOf w)) memory (offered (byView v (deviceOf w)) memory q) t request places) where
+  abbrev d : MemoryDevice
+  d = deviceOf w
+
+  pub judged-stop : (k : ℕ) (p : SplitQueue) → t ≡ offer.Stop k → p ≡ stoppedBy q k → Left v w q memory (record { outcome = Refused k; queue = p }) w memory
   unfolding steppedBy
-  judged-stop k p e f = rw (f, taken-stop (byView v d) memory (offered (byView v d) memory q) t k w e) (refl, refl)
+  judged-stop k p e f =
+      rw (f, taken-stop (byView v d) memory request places (offered (byView v d) memory q) t k took e) (refl, sym (words-of w l), refl)
 
-  pub judged-idle : t .offer ≡ offer.Idle
-      → (_≡_ {A = Stepped} (record { outcome = Idle; device = d; queue = q }) (steppedBy (byView v d) d q memory .result)) × (memory ≡ steppedBy (byView v d) d q memory .memory)
+  pub judged-idle : t ≡ offer.Idle → Left v w q memory (record { outcome = Idle; queue = q }) w memory
   unfolding steppedBy
-  judged-idle e = rw (taken-idle (byView v d) memory (offered (byView v d) memory q) t w e) (refl, refl)
+  judged-idle e =
+      rw (taken-idle (byView v d) memory request places (offered (byView v d) memory q) t took e) (refl, sym (words-of w l), refl)
 
-  module _ (h : ℕ) (notify : Bool) (e : t .offer ≡ offer.Ready h notify) where
-    judged : TakenReady (byView v d) memory (offered (byView v d) memory q) t h notify
-    judged = taken-ready _ _ _ t h notify w e
+  module _ (h : ℕ) (notify : Bool) (e : t ≡ offer.Ready h notify) where
+    judged : TakenReady (byView v d) memory request places (offered (byView v d) memory q) h notify
+    judged = taken-ready _ _ _ _ _ t h notify took e
 
     readied : Readied (byView v d) memory q h (judged .chain)
     readied = offer-ready (byView v d) memory q h notify (judged .chain) (judged .is)
@@ -216,16 +223,18 @@ module _ (v : FlatView) (d : MemoryDevice) (q : SplitQueue) (memory : List ℕ) 
     pub judged-used : UsedIn v q
     judged-used = used-in v d q (readied .used)
 
-    pub judged-within : (n : ℕ) → Backed v n → Within (t .places) n
-    judged-within n b = rw (judged .places) (ready-within v d memory q h (judged .chain) n b (readied .chain))
+    pub judged-within : (n : ℕ) → Backed v n → Within places n
+    judged-within n b = rw (judged .«its-places») (ready-within v d memory q h (judged .chain) n b (readied .chain))
 
     pub judged-low : queueOk q ≡ true → h < 65536
     judged-low k = omega (arith, readied .low, queue-facts q k .most)
 
-    pub judged-ready : (s : Stepped) (m : List ℕ) → s ≡ servedResult d q notify (t .request) → m ≡ servedMemory (placeIn v) d q h (t .request) (t .places) memory
-        → (s ≡ steppedBy (byView v d) d q memory .result) × (m ≡ steppedBy (byView v d) d q memory .memory)
+    pub judged-ready : (p : SplitQueue) (used bytes device m : List ℕ) → p ≡ advanced q → used ≡ usedPlaces (placeIn v) q → bytes ≡ usedBytes (q .«next_used») h
+        → device ≡ deviceWords (carrying d request .device) → m ≡ servedMemory memory places (carrying d request .response) used bytes
+        → Left v w q memory (record { outcome = Served notify; queue = p }) device m
     unfolding steppedBy
-    judged-ready s m f g = rw (judged .is) (f ∙ ap (servedResult d q notify) (judged .request), rw (← judged .request, ← judged .places) g)
+    judged-ready p used bytes device m f x y z u =
+        rw (judged .is, ← judged .«its-request», ← judged .«its-places», f, z, u, x, y) (refl, refl, refl)
 
 -- 27's rules, and the step on records that keep them or not
 pub record RecordFacts (v : FlatView) (d : MemoryDevice) (q : SplitQueue) (n : ℕ) : Type 0 where
@@ -246,14 +255,16 @@ records-facts v d q n h l =
       queue = and-snd (deviceOk d) (queueOk q) y;
     }
 
-module _ (v : FlatView) (d : MemoryDevice) (q : SplitQueue) (memory : List ℕ) where
-  pub step-judged : recordsOk v d q (length memory) ≡ true → (s : Stepped) (m : List ℕ)
-      → s ≡ steppedBy (byView v d) d q memory .result → m ≡ steppedBy (byView v d) d q memory .memory
-      → (s ≡ stepped v d q memory .result) × (m ≡ stepped v d q memory .memory)
-  unfolding stepped
-  step-judged h s m e f = rw h (e, f)
+-- a step on words that keep 27's rules or not
+abbrev pub LeftAny : FlatView → List ℕ → SplitQueue → List ℕ → Moved → List ℕ → List ℕ → Type 0
+LeftAny v w q memory r device m = LeavesIn w (stepped v (deviceOf w) q memory) r device m
 
-  pub step-refused : recordsOk v d q (length memory) ≡ false
-      → (_≡_ {A = Stepped} (record { outcome = Refused 27; device = d; queue = q }) (stepped v d q memory .result)) × (memory ≡ stepped v d q memory .memory)
+module _ (v : FlatView) (w : List ℕ) (q : SplitQueue) (memory : List ℕ) where
+  pub step-judged : recordsOk v (deviceOf w) q (length memory) ≡ true → (r : Moved) (device m : List ℕ)
+      → Left v w q memory r device m → LeftAny v w q memory r device m
   unfolding stepped
-  step-refused h = rw h (refl, refl)
+  step-judged h r device m l = rw (h, full v w q (length memory) h) l
+
+  pub step-refused : recordsOk v (deviceOf w) q (length memory) ≡ false → LeftAny v w q memory (record { outcome = Refused 27; queue = q }) w memory
+  unfolding stepped
+  step-refused h = rw h (refl, sym (laid-back w), refl)

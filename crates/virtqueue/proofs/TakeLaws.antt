@@ -9,11 +9,11 @@ use lib.Dec.{eqb, ltb}
 use lib.ListN.{length, take, length-take, length-map}
 use lib.Seq.{take-all}
 use borrow.Author.Tests.{lt-ltb, le-ltb, eq-eqb, ne-eqb, ltb-true, ltb-false, eqb-true, eqb-false}
-use Rattle.virtqueue.specs.Guest.{Guest, allReach, byteAt, numberAt}
+use Rattle.guest_view.specs.Guest.{Guest, allReach, byteAt, numberAt}
 use Rattle.virtqueue.specs.Queue.{ringEntry, usedEntry, distance}
 use Rattle.virtqueue.specs.Chain.{Chain, endOf, readable, writable, total, firstBytes, shapeOf}
 use Rattle.virtqueue.specs.Step.{notifies, noticesOf, headOf, usedReached, stop, ready, offerChain, offerHead, offerNotices, offered, requestBytes, responsePlaces}
-use Rattle.virtqueue.specs.Contracts.{Gathers, shapeFrom}
+use Rattle.virtqueue.specs.Contracts.{gotOf, Gathers, shapeFrom}
 use Rattle.virtqueue.specs.declared.chain.Gathered.{Gathered}
 use Rattle.virtqueue.specs.declared.queue.SplitQueue.{SplitQueue}
 use Rattle.virtqueue.specs.declared.take.AvailableNotices.{AvailableNotices}
@@ -91,20 +91,21 @@ least-below n k t e = go (ltb t k) refl
     go true h = let l = ltb-true t k h in lt-ltb n k (omega arith) ∙ sym h
     go false h = let l = ltb-false t k h in le-ltb n k (omega arith) ∙ sym h
 
-module _ (place : ℕ → ℕ) (memory : List ℕ) (c : Chain) (r : Gathered) (g : Gathers place memory c r) (x : length (r .request) ≡ 24) (y : length (r .places) ≡ 10) where
+module _ (place : ℕ → ℕ) (memory : List ℕ) (c : Chain) (r : Gathered) (request places : List ℕ)
+    (g : Gathers place memory c (r .stop) (gotOf r request places)) (x : length request ≡ 24) (y : length places ≡ 10) where
   read-count : endOf c ≡ 0 → r .readable ≡ min 24 (total (readable c))
   unfolding requestBytes
   read-count e =
-      let l : length (take (r .readable) (r .request)) ≡ min 24 (total (readable c)) =
+      let l : length (take (r .readable) request) ≡ min 24 (total (readable c)) =
       ap length (g .request e) ∙ length-map (firstBytes 24 (readable c)) (byteAt place memory) ∙ length-first 24 (readable c) in
-      omega (arith, g .«few-read», length-take (r .readable) (r .request))
+      omega (arith, g .«few-read» e, length-take (r .readable) request)
 
   written-count : endOf c ≡ 0 → r .writable ≡ min 10 (total (writable c))
   unfolding responsePlaces
   written-count e =
-      let l : length (take (r .writable) (r .places)) ≡ min 10 (total (writable c)) =
+      let l : length (take (r .writable) places) ≡ min 10 (total (writable c)) =
       ap length (g .places e) ∙ length-map (firstBytes 10 (writable c)) place ∙ length-first 10 (writable c) in
-      omega (arith, g .«few-written», length-take (r .writable) (r .places))
+      omega (arith, g .«few-written» e, length-take (r .writable) places)
 
   pub gathered-shape : shapeFrom r ≡ shapeOf c
   unfolding shapeOf
@@ -117,15 +118,15 @@ module _ (place : ℕ → ℕ) (memory : List ℕ) (c : Chain) (r : Gathered) (g
       go false h = rw (g .end, h)
 
   -- a chain that is ready was gathered whole
-  pub gathered-ready : shapeFrom r ≡ 0 → (r .request ≡ requestBytes place memory c) × (r .places ≡ responsePlaces place c)
+  pub gathered-ready : shapeFrom r ≡ 0 → (request ≡ requestBytes place memory c) × (places ≡ responsePlaces place c)
   gathered-ready h = go (eqb (r .stop) 0) refl (ltb (r .readable) 24) refl (ltb (r .writable) 10) refl h
     where
       go : (b : Bool) → eqb (r .stop) 0 ≡ b → (p : Bool) → ltb (r .readable) 24 ≡ p → (q : Bool) → ltb (r .writable) 10 ≡ q → cond b (cond (p || q) 22 0) (r .stop) ≡ 0
-          → (r .request ≡ requestBytes place memory c) × (r .places ≡ responsePlaces place c)
+          → (request ≡ requestBytes place memory c) × (places ≡ responsePlaces place c)
       go true b false p false q h =
           let e : endOf c ≡ 0 = sym (g .end) ∙ eqb-true (r .stop) 0 b in (
-            sym (take-all (r .readable) (r .request) (omega (arith, ltb-false (r .readable) 24 p))) ∙ g .request e,
-            sym (take-all (r .writable) (r .places) (omega (arith, ltb-false (r .writable) 10 q))) ∙ g .places e,
+            sym (take-all (r .readable) request (omega (arith, ltb-false (r .readable) 24 p))) ∙ g .request e,
+            sym (take-all (r .writable) places (omega (arith, ltb-false (r .writable) 10 q))) ∙ g .places e,
           )
       go true b false p true q h = absurd (omega arith)
       go true b true p q z h = absurd (omega arith)

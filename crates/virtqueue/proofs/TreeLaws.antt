@@ -7,15 +7,16 @@ use lib.ListN.{length}
 use Rattle.region_map.specs.Check.{Accepted}
 use Rattle.region_map.specs.Walk.{walkRoot}
 use Rattle.region_map.specs.FlatList.{inside, answerOf, lookup, Entry, Longest}
-use Rattle.region_map.specs.Flatten.{backingOf, flatList, entries, viewOf}
-use Rattle.region_map.specs.declared.map.RegionMap.{RegionMap}
+use Rattle.region_map.specs.Flatten.{backingOf, flatList, viewHolding}
+use Rattle.map_records.specs.View.{entries}
+use Rattle.map_records.specs.declared.map.RegionMap.{RegionMap}
 use Rattle.region_map.specs.declared.resolve.Resolved.{Resolved}
-use Rattle.region_map.specs.declared.view.FlatRange.{FlatRange}
+use Rattle.map_records.specs.declared.view.FlatRange.{FlatRange}
 use Rattle.region_map.proofs.Demand3.{demand3-first-half}
 use Rattle.region_map.proofs.UniqueLaws.{sound}
-use Rattle.memory_device.specs.Host.{pluggedAt}
-use Rattle.memory_device.specs.declared.device.MemoryDevice.{MemoryDevice}
-use Rattle.virtqueue.specs.Guest.{Leaf, leaf, leafIn, leafAt, leafOf, treeLeaf, Guest, guestBy, byView, byTree}
+use Rattle.device_words.specs.Device.{pluggedAt}
+use Rattle.device_words.specs.Device.{MemoryDevice}
+use Rattle.guest_view.specs.Guest.{Leaf, leaf, leafIn, leafAt, leafOf, treeLeaf, Guest, guestBy, byView, byTree}
 
 -- an entry that carries its region's values answers as its region does
 entry-leaf : (m : RegionMap) (x : FlatRange) (a : ℕ) → Entry (backingOf m) x → leafIn x a ≡ leafOf m (answerOf x a)
@@ -36,10 +37,10 @@ list-leaf m (x ∷ xs) a c = go (inside x a) (list-leaf m xs a (rest m x xs c))
     go false h = h
 
 module _ (m : RegionMap) (memory : ℕ) (ok : Accepted m memory) (few : length (flatList m) ≤ 256) where
-  pub view-leaf : (a : ℕ) → leafAt (entries (viewOf (flatList m))) a ≡ treeLeaf m a
+  pub view-leaf : (a : ℕ) → leafAt (entries (viewHolding (flatList m))) a ≡ treeLeaf m a
   view-leaf a =
       let h = demand3-first-half m memory ok few .1 in
-      list-leaf m (entries (viewOf (flatList m))) a (h .longest) ∙ ap (leafOf m) (h .gives a)
+      list-leaf m (entries (viewHolding (flatList m))) a (h .longest) ∙ ap (leafOf m) (h .gives a)
 
-  pub view-tree : (d : MemoryDevice) → byView (viewOf (flatList m)) d ≡ byTree m d
+  pub view-tree : (d : MemoryDevice) → byView (viewHolding (flatList m)) d ≡ byTree m d
   view-tree d = λ i. guestBy (λ a. view-leaf a i) (pluggedAt d)

@@ -1,19 +1,15 @@
--- The causes of 16 to 27, number by number, for demand 2: 'each number has its exact cause'. Assumes nothing: these are definitions.
+-- The causes of 16 to 22, number by number, for demand 2: 'each number has its exact cause'. Assumes nothing: these are definitions.
 use mathlib.Core.Bool.{Bool, true, false, cond, _&&_, _||_, not}
 use mathlib.Core.List.{List}
 use Prim.Native.Nat.{ℕ, _+_}
 use lib.Dec.{eqb, ltb}
-use Rattle.memory_device.specs.Table.{allBelow}
-use Rattle.virtqueue.specs.Guest.{Leaf, Guest, allReach, numberAt}
+use Rattle.guest_view.specs.Guest.{Leaf, Guest, allReach, numberAt}
 use Rattle.virtqueue.specs.Queue.{areasOk, ringEntry, distance}
 use Rattle.virtqueue.specs.Chain.{Chain, endOf, readable, writable, total}
-use Rattle.virtqueue.specs.Route.{widthOk, isNowhere, follows, isOpen}
 use Rattle.virtqueue.specs.Step.{chainOf, usedReached}
 use Rattle.virtqueue.specs.declared.queue.SplitQueue.{SplitQueue}
 use Rattle.virtqueue.specs.declared.queue.QueueAnswer.{QueueAnswer}
 use Rattle.virtqueue.specs.declared.queue.QueueAnswer.the-variants as queue
-use Rattle.virtqueue.specs.declared.route.RouteAnswer.{RouteAnswer}
-use Rattle.virtqueue.specs.declared.route.RouteAnswer.the-variants as route
 use Rattle.virtqueue.specs.declared.step.StepOutcome.{StepOutcome}
 use Rattle.virtqueue.specs.declared.step.StepOutcome.the-variants.{Refused, Idle, Served}
 
@@ -22,11 +18,6 @@ abbrev pub refusedBy : ℕ → StepOutcome → Bool
 refusedBy k (Refused n) = eqb n k
 refusedBy k Idle = false
 refusedBy k (Served notify) = false
-
-abbrev pub routeRefusedBy : ℕ → RouteAnswer → Bool
-routeRefusedBy k (route.Refused n) = eqb n k
-routeRefusedBy k (route.Memory p) = false
-routeRefusedBy k (route.Port p o) = false
 
 abbrev pub is16 : QueueAnswer → Bool
 is16 queue.Done = false
@@ -97,19 +88,3 @@ module _ (g : Guest) (memory : List ℕ) (q : SplitQueue) where
   -- 22: 'fewer than 24 readable or 10 writable bytes'
   abbrev pub cause22 : Bool
   cause22 = chained && short
-
--- Routing.
-module _ (answers : ℕ → Leaf) (plugged : ℕ → Bool) (a w : ℕ) where
-  abbrev pub cause23 : Bool
-  cause23 = not (widthOk w)
-
-  abbrev pub cause24 : Bool
-  cause24 = widthOk w && isNowhere (answers a)
-
-  abbrev pub cause25 : Bool
-  cause25 = widthOk w && not (isNowhere (answers a)) && not (allBelow (λ i. follows (answers a) i (answers (a + i))) w)
-
-  abbrev pub cause26 : Bool
-  cause26 =
-      widthOk w && not (isNowhere (answers a)) && allBelow (λ i. follows (answers a) i (answers (a + i))) w
-      && not (allBelow (λ i. isOpen plugged (answers (a + i))) w)

@@ -1,9 +1,9 @@
--- A chain of descriptors, stated apart from where descriptors are read and how elements are reached: `fetch` gives a table's entry, `size` is the table's size. Assumes nothing: these are definitions.
+-- A chain of descriptors, stated apart from where descriptors are read, how elements are reached and which entry follows. Assumes nothing: these are definitions.
 use mathlib.Core.Bool.{Bool, true, false, cond, _&&_, _||_, not}
 use mathlib.Core.List.{List, [], _∷_, _++_}
 use Prim.Native.Nat.{ℕ, zero, suc, _+_, _-_, _*_, _/_, _%_, min}
 use lib.Dec.{eqb, ltb}
-use Rattle.virtqueue.specs.Guest.{Guest, allReach, addresses, numberAt}
+use Rattle.guest_view.specs.Guest.{Guest, allReach, addresses, numberAt}
 use Rattle.virtqueue.specs.declared.chain.Descriptor.{Descriptor}
 use Rattle.virtqueue.specs.declared.chain.Fetched.{Fetched}
 use Rattle.virtqueue.specs.declared.chain.Fetched.the-variants.{Out, Here}
@@ -29,16 +29,30 @@ pub data Chain : Type 0 where
 abbrev pub misplaced : Bool → Descriptor → Bool
 misplaced late d = isIndirect d || (late && not (isWritable d))
 
--- One descriptor, `rest` giving the chain from another entry on, and the chain from entry i on, of at most `left` more descriptors, `late` saying whether a writable element came before: 'per descriptor 17, INDIRECT, readable late, 21, next or length'. With none left, NEXT was 'set in the descriptor that is the queue-size-th of the chain'.
-unfoldable pub visit : (Descriptor → Bool) → ℕ → Bool → (ℕ → Bool → Chain) → Fetched → Chain
-visit reached size late rest Out = ended 17
-visit reached size late rest (Here d) =
-    cond (misplaced late d) (ended 20)
-    (cond (reached d) (element d (cond (hasNext d) (cond (ltb (d .next) size) (rest (d .next) (isWritable d)) (ended 20)) whole)) (refused d))
+-- which entry follows a descriptor that has NEXT: one of the table, or none, which is 20
+pub data Following : Type 0 where
+  onward : ℕ → Following
+  astray : Following
 
-unfoldable pub follow : (ℕ → Fetched) → (Descriptor → Bool) → ℕ → ℕ → ℕ → Bool → Chain
-follow fetch reached size zero i late = ended 20
-follow fetch reached size (suc left) i late = visit reached size late (follow fetch reached size left) (fetch i)
+-- in a table of `size` descriptors, the split ring's or an indirect one: 20, 'next not below the queue size'
+abbrev pub nextBelow : ℕ → Descriptor → ℕ → Following
+nextBelow size d i = cond (ltb (d .next) size) (onward (d .next)) astray
+
+abbrev pub goOn : (ℕ → Chain) → Following → Chain
+goOn rest (onward j) = rest j
+goOn rest astray = ended 20
+
+-- The descriptor at entry i, `late` saying whether a writable element came before, `next` which entry follows and `rest` the chain from there on: 'per descriptor 17, INDIRECT, readable late, 21, next or length'.
+unfoldable pub visit : (Descriptor → Bool) → (Descriptor → ℕ → Following) → ℕ → Bool → (ℕ → Bool → Chain) → Fetched → Chain
+visit reached next i late rest Out = ended 17
+visit reached next i late rest (Here d) =
+    cond (misplaced late d) (ended 20)
+    (cond (reached d) (element d (cond (hasNext d) (goOn (λ j. rest j (isWritable d)) (next d i)) whole)) (refused d))
+
+-- The chain from entry i on, of at most `left` more descriptors. With none left, NEXT was 'set in the descriptor that is the queue-size-th of the chain'. Where descriptors are read, which are reached, which entry follows and how many there may be are parameters: ring, indirect table and packed ring share it.
+unfoldable pub follow : (ℕ → Fetched) → (Descriptor → Bool) → (Descriptor → ℕ → Following) → ℕ → ℕ → Bool → Chain
+follow fetch reached next zero i late = ended 20
+follow fetch reached next (suc left) i late = visit reached next i late (follow fetch reached next left) (fetch i)
 
 -- the number that ends a chain, and 0 for a whole one
 unfoldable pub endOf : Chain → ℕ
@@ -92,6 +106,6 @@ fetched g memory table i =
 abbrev pub reached : Guest → Descriptor → Bool
 reached g d = allReach (g .reach) (d .addr .0) (d .length)
 
--- the chain in a guest's table that starts at `head`
+-- the chain in a guest's table of `size` descriptors that starts at `head`: as many may come as the table has
 unfoldable pub chainAt : Guest → List ℕ → ℕ → ℕ → ℕ → Chain
-chainAt g memory table size head = follow (fetched g memory table) (reached g) size size head false
+chainAt g memory table size head = follow (fetched g memory table) (reached g) (nextBelow size) size head false

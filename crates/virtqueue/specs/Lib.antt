@@ -1,12 +1,13 @@
-pub mod Guest
-pub mod View
-pub mod Words
+pub mod Look
 pub mod Route
 pub mod Queue
 pub mod Chain
 pub mod Step
+pub mod Moved
 pub mod Run
 pub mod Contracts
 pub mod SecondHalf
 pub mod Causes
+pub mod RouteCauses
+pub mod ByValue
 pub mod Thin

@@ -69,15 +69,25 @@ queueReply answer.Done = accepted
 queueReply answer.Queue = plain 16
 queueReply answer.Record = plain 27
 
--- VIRTIO 2.6.6 and 2.6.8: a ring has flags and idx of two bytes each, then its entries
+-- VIRTIO 2.6.6 and 2.6.8: a ring has flags and idx of two bytes each, then its entries, of which a count takes its own modulo the size; places by the ring's address, a count and the size
+abbrev pub ringEntryAt : ℕ → ℕ → ℕ → ℕ
+ringEntryAt available count size = available + 4 + 2 * (count % size)
+
+abbrev pub usedEntryAt : ℕ → ℕ → ℕ → ℕ
+usedEntryAt used count size = used + 4 + 8 * (count % size)
+
+abbrev pub usedIdxAt : ℕ → ℕ
+usedIdxAt used = used + 2
+
+-- of the device's record: 'ring entry at seen mod n', 'the used slot (own count mod n)'
 abbrev pub ringEntry : SplitQueue → ℕ
-ringEntry q = q .available .0 + 4 + 2 * (q .«next_available» % q .size)
+ringEntry q = ringEntryAt (q .available .0) (q .«next_available») (q .size)
 
 abbrev pub usedEntry : SplitQueue → ℕ
-usedEntry q = q .used .0 + 4 + 8 * (q .«next_used» % q .size)
+usedEntry q = usedEntryAt (q .used .0) (q .«next_used») (q .size)
 
 abbrev pub usedIdx : SplitQueue → ℕ
-usedIdx q = q .used .0 + 2
+usedIdx q = usedIdxAt (q .used .0)
 
 -- 'the distance taken modulo 65,536', and the next index
 abbrev pub distance : ℕ → ℕ → ℕ

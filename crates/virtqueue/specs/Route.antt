@@ -4,16 +4,14 @@ use mathlib.Core.List.{List, [], _∷_, _++_}
 use Prim.Native.Nat.{ℕ, zero, suc, _+_, _*_, _/_, _%_}
 use lib.Dec.{eqb}
 use lib.ListN.{length, getD}
-use Rattle.region_map.specs.Map.{mmio, managed}
-use Rattle.region_map.specs.Flatten.{entries}
+use Rattle.map_records.specs.Map.{mmio, managed}
+use Rattle.map_records.specs.View.{entries}
 use Rattle.region_map.specs.Reply.{Reply, accepted, plain}
-use Rattle.region_map.specs.declared.view.FlatView.{FlatView}
-use Rattle.memory_device.specs.Table.{allBelow}
-use Rattle.memory_device.specs.Device.{deviceOk}
-use Rattle.memory_device.specs.Host.{pluggedAt}
-use Rattle.memory_device.specs.declared.device.MemoryDevice.{MemoryDevice}
-use Rattle.virtqueue.specs.Guest.{Leaf, nowhere, leaf, leafAt}
-use Rattle.virtqueue.specs.View.{viewOk, noRegionBound}
+use Rattle.map_records.specs.declared.view.FlatView.{FlatView}
+use Rattle.device_words.specs.Table.{allBelow}
+use Rattle.device_words.specs.Device.{MemoryDevice, deviceOk, pluggedAt}
+use Rattle.guest_view.specs.Guest.{Leaf, nowhere, leaf, leafAt}
+use Rattle.guest_view.specs.View.{viewOk, noRegionBound}
 use Rattle.virtqueue.specs.declared.route.RouteAnswer.{RouteAnswer}
 use Rattle.virtqueue.specs.declared.route.RouteAnswer.the-variants.{Refused, Memory, Port}
 

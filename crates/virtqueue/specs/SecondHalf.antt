@@ -5,16 +5,16 @@ use mathlib.Core.List.{List, map, _++_}
 use Prim.Native.Nat.{ℕ, _+_, _<_}
 use lib.Dec.{eqb}
 use lib.ListN.{length}
-use Rattle.region_map.specs.Map.{ram, managed, region}
+use Rattle.map_records.specs.Map.{ram, managed, region}
 use Rattle.region_map.specs.Walk.{walkRoot}
-use Rattle.region_map.specs.declared.map.RegionMap.{RegionMap}
+use Rattle.map_records.specs.declared.map.RegionMap.{RegionMap}
 use Rattle.region_map.specs.declared.resolve.Resolved.{Resolved}
 use Rattle.region_map.specs.declared.resolve.Resolved.the-variants.{Nothing, At}
-use Rattle.region_map.specs.declared.view.FlatView.{FlatView}
-use Rattle.memory_device.specs.Host.{pluggedAt}
-use Rattle.memory_device.specs.Request.{requestOf, carriedOut}
-use Rattle.memory_device.specs.declared.device.MemoryDevice.{MemoryDevice}
-use Rattle.virtqueue.specs.Guest.{byView, addresses, byteAt, numberAt, written}
+use Rattle.map_records.specs.declared.view.FlatView.{FlatView}
+use Rattle.device_words.specs.Device.{pluggedAt}
+use Rattle.device_words.specs.Request.{requestOf, carriedOut}
+use Rattle.device_words.specs.Device.{MemoryDevice}
+use Rattle.guest_view.specs.Guest.{addresses, byteAt, numberAt, written, byView}
 use Rattle.virtqueue.specs.Queue.{ringEntry, usedEntry, usedIdx}
 use Rattle.virtqueue.specs.Chain.{Chain, whole, ended, refused, element, readable, writable, firstBytes}
 use Rattle.virtqueue.specs.Step.{recordsOk, stepped, comesTo, usedBytes}

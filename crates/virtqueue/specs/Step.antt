@@ -5,13 +5,13 @@ use Prim.Native.Nat.{ℕ, _+_, _*_, _%_}
 use lib.Dec.{eqb, ltb}
 use lib.ListN.{length}
 use Rattle.region_map.specs.Reply.{Reply, accepted, plain}
-use Rattle.region_map.specs.declared.view.FlatView.{FlatView}
-use Rattle.memory_device.specs.Bytes.{le}
-use Rattle.memory_device.specs.Device.{deviceOk}
-use Rattle.memory_device.specs.Request.{requestOf, carriedOut}
-use Rattle.memory_device.specs.declared.device.MemoryDevice.{MemoryDevice}
-use Rattle.virtqueue.specs.Guest.{Guest, byView, allReach, addresses, byteAt, numberAt, written}
-use Rattle.virtqueue.specs.View.{viewOk}
+use Rattle.map_records.specs.declared.view.FlatView.{FlatView}
+use Rattle.device_words.specs.Bytes.{le}
+use Rattle.device_words.specs.Device.{deviceOk}
+use Rattle.device_words.specs.Request.{requestOf, carriedOut}
+use Rattle.device_words.specs.Device.{MemoryDevice}
+use Rattle.guest_view.specs.Guest.{Guest, allReach, addresses, byteAt, numberAt, written, byView}
+use Rattle.guest_view.specs.View.{viewOk}
 use Rattle.virtqueue.specs.Queue.{queueOk, ringEntry, usedEntry, usedIdx, distance, nextIndex, stoppedBy, advanced}
 use Rattle.virtqueue.specs.Chain.{Chain, ended, readable, writable, firstBytes, shapeOf, chainAt}
 use Rattle.virtqueue.specs.declared.queue.SplitQueue.{SplitQueue}
@@ -21,7 +21,6 @@ use Rattle.virtqueue.specs.declared.take.HeadEntry.{HeadEntry}
 use Rattle.virtqueue.specs.declared.take.HeadEntry.the-variants as head
 use Rattle.virtqueue.specs.declared.step.StepOutcome.{StepOutcome}
 use Rattle.virtqueue.specs.declared.step.StepOutcome.the-variants.{Refused, Idle, Served}
-use Rattle.virtqueue.specs.declared.step.Stepped.{Stepped}
 
 -- Over one guest, memory and queue record.
 
@@ -90,33 +89,59 @@ usedPlaces place q = map place (addresses (usedEntry q) 8 ++ addresses (usedIdx 
 unfoldable pub usedBytes : ℕ → ℕ → List ℕ
 usedBytes count h = le 4 h ++ le 4 10 ++ le 2 (nextIndex count)
 
--- What a step gives: the answer with the records, and memory.
-pub record Effect : Type 0 where
-  pub result : Stepped
+-- what carrying a request out gives: the response's bytes, and the next state of what carried it out
+pub record Reaction (D : Type 0) : Type 0 where
+  pub response : List ℕ
+  pub device : D
+
+-- 'carried out as the request', by the memory device
+unfoldable pub carrying : MemoryDevice → List ℕ → Reaction MemoryDevice
+carrying d request = record { response = carriedOut d (requestOf request) .response; device = carriedOut d (requestOf request) .device }
+
+-- the writing half, by the places and bytes of the response and of the used ring: 'in that order, byte by byte, a later write winning'
+abbrev pub servedMemory : List ℕ → List ℕ → List ℕ → List ℕ → List ℕ → List ℕ
+servedMemory memory places response used bytes = written (written memory places response) used bytes
+
+-- What a step leaves, whatever carries requests out.
+pub record After (D : Type 0) : Type 0 where
+  pub outcome : StepOutcome
+  pub device : D
+  pub queue : SplitQueue
   pub memory : List ℕ
+
+abbrev pub servedBy : {D : Type 0} → Guest → (List ℕ → Reaction D) → SplitQueue → List ℕ → ℕ → Bool → Chain → After D
+servedBy g carry q memory h notify c =
+    record {
+      outcome = Served notify;
+      device = carry (requestBytes (g .place) memory c) .device;
+      queue = advanced q;
+      memory = servedMemory memory (responsePlaces (g .place) c) (carry (requestBytes (g .place) memory c) .response) (usedPlaces (g .place) q) (usedBytes (q .«next_used») h);
+    }
+
+-- the step after its reading half, `carry` carrying the request out
+abbrev pub finishedBy : {D : Type 0} → Guest → (List ℕ → Reaction D) → D → SplitQueue → List ℕ → Offer → After D
+finishedBy g carry d q memory (stop k) = record { outcome = Refused k; device = d; queue = stoppedBy q k; memory = memory }
+finishedBy g carry d q memory idle = record { outcome = Idle; device = d; queue = q; memory = memory }
+finishedBy g carry d q memory (ready h notify c) = servedBy g carry q memory h notify c
+
+-- What a step of the memory device gives: the answer with the records, and memory.
+pub record Result : Type 0 where
+  pub outcome : StepOutcome
+  pub device : MemoryDevice
+  pub queue : SplitQueue
+
+pub record Effect : Type 0 where
+  pub result : Result
+  pub memory : List ℕ
+
+abbrev pub effectOf : After MemoryDevice → Effect
+effectOf a = record { result = record { outcome = a .outcome; device = a .device; queue = a .queue }; memory = a .memory }
 
 abbrev pub unmoved : StepOutcome → MemoryDevice → SplitQueue → List ℕ → Effect
 unmoved o d q memory = record { result = record { outcome = o; device = d; queue = q }; memory = memory }
 
--- the writing half, for a request and the places of its response: 'in that order, byte by byte, a later write winning'
-unfoldable pub servedResult : MemoryDevice → SplitQueue → Bool → List ℕ → Stepped
-servedResult d q notify request = record { outcome = Served notify; device = carriedOut d (requestOf request) .device; queue = advanced q }
-
-unfoldable pub servedMemory : (ℕ → ℕ) → MemoryDevice → SplitQueue → ℕ → List ℕ → List ℕ → List ℕ → List ℕ
-servedMemory place d q h request places memory =
-    written (written memory places (carriedOut d (requestOf request) .response)) (usedPlaces place q) (usedBytes (q .«next_used») h)
-
-abbrev pub servedBy : Guest → MemoryDevice → SplitQueue → List ℕ → ℕ → Bool → Chain → Effect
-servedBy g d q memory h notify c =
-    record {
-      result = servedResult d q notify (requestBytes (g .place) memory c);
-      memory = servedMemory (g .place) d q h (requestBytes (g .place) memory c) (responsePlaces (g .place) c) memory;
-    }
-
 abbrev pub finished : Guest → MemoryDevice → SplitQueue → List ℕ → Offer → Effect
-finished g d q memory (stop k) = unmoved (Refused k) d (stoppedBy q k) memory
-finished g d q memory idle = unmoved Idle d q memory
-finished g d q memory (ready h notify c) = servedBy g d q memory h notify c
+finished g d q memory o = effectOf (finishedBy g (carrying d) d q memory o)
 
 unfoldable pub steppedBy : Guest → MemoryDevice → SplitQueue → List ℕ → Effect
 steppedBy g d q memory = finished g d q memory (offered g memory q)

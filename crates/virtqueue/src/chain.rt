@@ -2,17 +2,16 @@
 ghost use mathlib.Core.Path.{_≡_};
 ghost use Prim.Native.Nat.{_+_, _≤_, _<_, min};
 ghost use lib.ListN.{length};
-ghost use Rattle.virtqueue.specs.Words.{viewOf};
-ghost use Rattle.virtqueue.specs.Guest.{byView};
-ghost use Rattle.virtqueue.specs.Chain.{hasNext, isWritable, misplaced, descriptorAt, fetched, chainAt};
-ghost use Rattle.virtqueue.specs.Contracts.{Judged, Backed, InMemory, placeIn, Gathers, Small, added};
-use crate::find::near;
-use crate::memory::copy_bytes;
-use crate::memory::copy_places;
-use crate::memory::read_number;
-use crate::reach::reaches;
-use memory_device::device::MemoryDevice;
-use region_map::map::GuestAddress;
+ghost use Rattle.map_records.specs.Words.{viewOf};
+ghost use Rattle.guest_view.specs.Contracts.{Judged, Backed, InMemory, placeIn};
+ghost use Rattle.virtqueue.specs.Chain.{hasNext, isWritable, misplaced, descriptorAt, fetched, reached, chainAt};
+ghost use Rattle.virtqueue.specs.Contracts.{guestIn, Small, Filled, added, gotOf, Visits, Gathers};
+use guest_view::find::near;
+use guest_view::memory::find_places;
+use guest_view::memory::number_from;
+use guest_view::memory::read_bytes;
+use guest_view::reach::reaches;
+use map_records::map::GuestAddress;
 
 // VIRTIO's descriptor: an element of a chain, with flags and the next entry's number.
 pub struct Descriptor {
@@ -28,14 +27,13 @@ pub enum Fetched {
     Here(Descriptor),
 }
 
-// What the elements so far give: the number that ended the chain or 0, the first bytes of the request,
-// and the memory places of the first bytes for the response.
+// What the elements so far gave, beside the lent buffers: the number that ended the chain or 0, how many
+// bytes of the request and places for the response are there, and whether a writable element came.
 pub struct Gathered {
     pub stop: u8,
-    pub request: [u8; 24],
     pub readable: usize,
-    pub places: [usize; 10],
     pub writable: usize,
+    pub late: bool,
 }
 
 fn has_next(d: Descriptor) -> bool
@@ -57,18 +55,15 @@ fn is_misplaced(late: bool, d: Descriptor) -> bool
     (d.flags / 4 % 2 == 1) | (late & !(d.flags / 2 % 2 == 1))
 }
 
-// The descriptor in the sixteen bytes at an address.
-fn descriptor_at(view: &[u64], mem: &[u8], hint: usize, at: GuestAddress) -> Descriptor
-    requires { ⌜ Judged (now view) ⌝ }
-    requires { ⌜ Backed (viewOf (now view)) (length (now mem)) ⌝ }
-    requires { ⌜ InMemory (viewOf (now view)) (at .0) 16 ⌝ }
-    requires { ⌜ at .0 + 16 ≤ 18446744073709551615 ⌝ }
-    ensures { λ r. ⌜ (r ≡ descriptorAt (placeIn (viewOf (now (view .entry)))) (now (mem .entry)) (at .0)) × Small r ⌝ }
+// The descriptor of sixteen bytes.
+fn descriptor_of(bytes: &[u8]) -> Descriptor
+    requires { ⌜ length (now bytes) ≡ 16 ⌝ }
+    ensures { λ r. ⌜ (r ≡ descriptorAt (λ a. a) (now (bytes .entry)) 0) × Small r ⌝ }
 {
-    let addr = read_number(view, mem, hint, at, 8);
-    let length = read_number(view, mem, hint, GuestAddress(at.0 + 8), 4);
-    let flags = read_number(view, mem, hint, GuestAddress(at.0 + 12), 2);
-    let next = read_number(view, mem, hint, GuestAddress(at.0 + 14), 2);
+    let addr = number_from(bytes, 0, 8);
+    let length = number_from(bytes, 8, 4);
+    let flags = number_from(bytes, 12, 2);
+    let next = number_from(bytes, 14, 2);
     Descriptor {
         addr: GuestAddress(addr),
         length: length,
@@ -77,10 +72,23 @@ fn descriptor_at(view: &[u64], mem: &[u8], hint: usize, at: GuestAddress) -> Des
     }
 }
 
+// The descriptor in the sixteen bytes at an address.
+fn descriptor_at(view: &[u64], mem: &[u8], hint: usize, at: GuestAddress) -> Descriptor
+    requires { ⌜ Judged (now view) ⌝ }
+    requires { ⌜ Backed (viewOf (now view)) (length (now mem)) ⌝ }
+    requires { ⌜ InMemory (viewOf (now view)) (at .0) 16 ⌝ }
+    ensures { λ r. ⌜ (r ≡ descriptorAt (placeIn (viewOf (now (view .entry)))) (now (mem .entry)) (at .0)) × Small r ⌝ }
+{
+    let mut bytes = [0u8; 16];
+    read_bytes(view, mem, hint, at, &mut bytes);
+    descriptor_of(&bytes)
+}
+
 // Entry i of a table.
 fn fetch(
     view: &[u64],
-    device: MemoryDevice,
+    block: u64,
+    plugged: &[u64],
     mem: &[u8],
     table: GuestAddress,
     i: u64,
@@ -88,14 +96,13 @@ fn fetch(
 ) -> Fetched
     requires { ⌜ Judged (now view) ⌝ }
     requires { ⌜ Backed (viewOf (now view)) (length (now mem)) ⌝ }
-    requires { ⌜ 0 < device .«block_size» ⌝ }
+    requires { ⌜ (0 < block) × (length (now plugged) ≡ 16) ⌝ }
     requires { ⌜ (table .0 ≤ 281474976710656) × (i < 65536) ⌝ }
-    ensures { λ r. ⌜ r ≡ fetched (byView (viewOf (now (view .entry))) device) (now (mem .entry)) (table .0) i ⌝ }
+    ensures { λ r. ⌜ r ≡ fetched (guestIn (now (view .entry)) block (now (plugged .entry))) (now (mem .entry)) (table .0) i ⌝ }
 {
     let at = GuestAddress(table.0 + 16 * i);
-    let here = near(view, hint, at);
-    if reaches(view, device, here, at, 16) {
-        let d = descriptor_at(view, mem, here, at);
+    if reaches(view, block, plugged, hint, at, 16) {
+        let d = descriptor_at(view, mem, hint, at);
         return Fetched::Here(d);
     }
     Fetched::Out
@@ -107,98 +114,138 @@ fn smaller(a: usize, b: u64) -> usize
     if (a as u64) < b { a } else { b as usize }
 }
 
-// What an accepted element adds.
-fn add_element(view: &[u64], mem: &[u8], hint: usize, so_far: Gathered, d: Descriptor) -> Gathered
+// What an accepted element adds: bytes of the request up to 24, or places for the response up to 10.
+fn add_element(
+    view: &[u64],
+    mem: &[u8],
+    hint: usize,
+    d: Descriptor,
+    so_far: Gathered,
+    request: &mut [u8],
+    places: &mut [usize],
+) -> Gathered
     requires { ⌜ Judged (now view) ⌝ }
     requires { ⌜ Backed (viewOf (now view)) (length (now mem)) ⌝ }
     requires { ⌜ InMemory (viewOf (now view)) (d .addr .0) (d .length) ⌝ }
-    requires { ⌜ («so_far» .readable ≤ 24) × («so_far» .writable ≤ 10) ⌝ }
-    ensures { λ r. ⌜ r ≡ added (placeIn (viewOf (now (view .entry)))) (now (mem .entry)) «so_far» d ⌝ }
+    requires { ⌜ Filled «so_far» (now request) (now places) ⌝ }
+    ensures { λ r. ⌜ (gotOf r (now (request .exit)) (now (places .exit))
+        ≡ added (placeIn (viewOf (now (view .entry)))) (now (mem .entry)) (gotOf «so_far» (now (request .entry)) (now (places .entry))) d)
+        × (r .stop ≡ 0) ⌝ }
 {
-    let request = so_far.request;
-    let places = so_far.places;
     if is_writable(d) {
-        let count = smaller(10 - so_far.writable, d.length);
-        let more = copy_places(view, hint, places, so_far.writable, d.addr, count);
+        let from = so_far.writable;
+        let end = from + smaller(10 - from, d.length);
+        find_places(view, hint, d.addr, &mut places[from..end]);
         return Gathered {
-            stop: so_far.stop,
-            request: request,
+            stop: 0,
             readable: so_far.readable,
-            places: more,
-            writable: so_far.writable + count,
+            writable: end,
+            late: true,
         };
     }
-    let count = smaller(24 - so_far.readable, d.length);
-    let more = copy_bytes(view, mem, hint, request, so_far.readable, d.addr, count);
+    let from = so_far.readable;
+    let end = from + smaller(24 - from, d.length);
+    read_bytes(view, mem, hint, d.addr, &mut request[from..end]);
     Gathered {
-        stop: so_far.stop,
-        request: more,
-        readable: so_far.readable + count,
-        places: places,
+        stop: 0,
+        readable: end,
         writable: so_far.writable,
+        late: false,
     }
 }
 
 // A chain that a number ended.
-fn ended(so_far: Gathered, stop: u8) -> Gathered
-    ensures { λ r. ⌜ (r .stop ≡ stop) × (r .readable ≡ «so_far» .readable) × (r .writable ≡ «so_far» .writable) ⌝ }
+fn ended(stop: u8) -> Gathered
+    ensures { λ r. ⌜ r .stop ≡ stop ⌝ }
 {
-    let mut last = so_far;
-    last.stop = stop;
-    last
+    Gathered {
+        stop: stop,
+        readable: 0,
+        writable: 0,
+        late: false,
+    }
 }
 
-// The chain that starts at a head: per descriptor 17, INDIRECT, readable late, 21, next or length.
-pub fn gather(
+// One descriptor: INDIRECT, readable late, 21, and what it adds.
+fn visit(
     view: &[u64],
-    device: MemoryDevice,
+    block: u64,
+    plugged: &[u64],
     mem: &[u8],
-    table: GuestAddress,
-    size: u64,
-    head: u64,
     hint: usize,
+    d: Descriptor,
+    so_far: Gathered,
+    request: &mut [u8],
+    places: &mut [usize],
 ) -> Gathered
     requires { ⌜ Judged (now view) ⌝ }
     requires { ⌜ Backed (viewOf (now view)) (length (now mem)) ⌝ }
-    requires { ⌜ 0 < device .«block_size» ⌝ }
+    requires { ⌜ (0 < block) × (length (now plugged) ≡ 16) ⌝ }
+    requires { ⌜ Filled «so_far» (now request) (now places) ⌝ }
+    ensures { λ r. ⌜ Visits (placeIn (viewOf (now (view .entry)))) (now (mem .entry))
+        (reached (guestIn (now (view .entry)) block (now (plugged .entry)))) d
+        (gotOf «so_far» (now (request .entry)) (now (places .entry))) (r .stop) (gotOf r (now (request .exit)) (now (places .exit))) ⌝ }
+{
+    if is_misplaced(so_far.late, d) {
+        return ended(20);
+    }
+    let there = near(view, hint, d.addr);
+    if !reaches(view, block, plugged, there, d.addr, d.length) {
+        return ended(21);
+    }
+    add_element(view, mem, there, d, so_far, request, places)
+}
+
+// The chain that starts at a head of a table: per descriptor 17, what `visit` says, next or length.
+pub fn gather(
+    view: &[u64],
+    block: u64,
+    plugged: &[u64],
+    mem: &[u8],
+    hint: usize,
+    table: GuestAddress,
+    size: u64,
+    head: u64,
+    request: &mut [u8],
+    places: &mut [usize],
+) -> Gathered
+    requires { ⌜ Judged (now view) ⌝ }
+    requires { ⌜ Backed (viewOf (now view)) (length (now mem)) ⌝ }
+    requires { ⌜ (0 < block) × (length (now plugged) ≡ 16) ⌝ }
     requires { ⌜ (table .0 ≤ 281474976710656) × (size ≤ 256) × (head < size) ⌝ }
-    ensures { λ r. ⌜ Gathers (placeIn (viewOf (now (view .entry)))) (now (mem .entry)) (chainAt (byView (viewOf (now (view .entry))) device) (now (mem .entry)) (table .0) size head) r ⌝ }
+    requires { ⌜ (length (now request) ≡ 24) × (length (now places) ≡ 10) ⌝ }
+    ensures { λ r. ⌜ Gathers (placeIn (viewOf (now (view .entry)))) (now (mem .entry))
+        (chainAt (guestIn (now (view .entry)) block (now (plugged .entry))) (now (mem .entry)) (table .0) size head)
+        (r .stop) (gotOf r (now (request .exit)) (now (places .exit))) ⌝ }
 {
     let mut so_far = Gathered {
         stop: 0,
-        request: [0u8; 24],
         readable: 0,
-        places: [0usize; 10],
         writable: 0,
+        late: false,
     };
     let mut i = head;
-    let mut late = false;
     let mut left = size;
     while 0 < left {
-        match fetch(view, device, mem, table, i, hint) {
+        match fetch(view, block, plugged, mem, table, i, hint) {
             Fetched::Out => {
-                return ended(so_far, 17);
+                return ended(17);
             }
             Fetched::Here(d) => {
-                if is_misplaced(late, d) {
-                    return ended(so_far, 20);
+                so_far = visit(view, block, plugged, mem, hint, d, so_far, request, places);
+                if so_far.stop != 0 {
+                    return so_far;
                 }
-                let there = near(view, hint, d.addr);
-                if !reaches(view, device, there, d.addr, d.length) {
-                    return ended(so_far, 21);
-                }
-                so_far = add_element(view, mem, there, so_far, d);
                 if !has_next(d) {
                     return so_far;
                 }
                 if size <= d.next {
-                    return ended(so_far, 20);
+                    return ended(20);
                 }
                 i = d.next;
-                late = is_writable(d);
                 left -= 1;
             }
         }
     }
-    ended(so_far, 20)
+    ended(20)
 }

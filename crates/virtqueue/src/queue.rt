@@ -4,7 +4,7 @@ ghost use Prim.Native.Nat.{_+_, _<_};
 ghost use lib.Dec.{leb};
 ghost use Rattle.region_map.specs.Reply.{numberOf};
 ghost use Rattle.virtqueue.specs.Queue.{sizeOk, areaOk, areasOk, stopOk, queueOk, noQueue, made, wasReset, queueReply};
-use region_map::map::GuestAddress;
+use map_records::map::GuestAddress;
 
 // The queue's size and areas, the two free-running indices, and the stop: 0 for none, or document 01's
 // number. `next_available` is what document 01 calls seen, `next_used` its own count.

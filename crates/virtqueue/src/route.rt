@@ -5,24 +5,34 @@ ghost use mathlib.Core.List.{[], _∷_};
 ghost use Prim.Native.Nat.{_+_, _*_, _/_, _≤_, _<_};
 ghost use lib.ListN.{length};
 ghost use lib.Seq.{sets};
-ghost use Rattle.region_map.specs.Flatten.{entries};
+ghost use Rattle.map_records.specs.View.{entries};
 ghost use Rattle.region_map.specs.Reply.{numberOf};
-ghost use Rattle.memory_device.specs.Table.{allBelow};
-ghost use Rattle.memory_device.specs.Host.{pluggedAt};
-ghost use Rattle.virtqueue.specs.Words.{viewOf};
-ghost use Rattle.virtqueue.specs.Guest.{leafAt};
+ghost use Rattle.device_words.specs.Table.{allBelow};
+ghost use Rattle.device_words.specs.Device.{pluggedIn};
+ghost use Rattle.device_words.specs.Words.{deviceOf};
+ghost use Rattle.map_records.specs.Words.{viewOf};
+ghost use Rattle.guest_view.specs.Guest.{leafAt};
+ghost use Rattle.guest_view.specs.Contracts.{Judged, Spot};
 ghost use Rattle.virtqueue.specs.Route.{widthOk, follows, routed, routedWith, routedWithout, routeReply, answerWords, answersTo, answersFit, allWith, allWithout};
-ghost use Rattle.virtqueue.specs.Contracts.{Judged, Spot, noDevice};
-use crate::find::near;
-use crate::rules::view_ok;
 use crate::view::NO_REGION;
-use crate::words::count_of;
-use crate::words::range_at;
-use memory_device::device::MemoryDevice;
-use region_map::map::GuestAddress;
-use region_map::map::MANAGED;
-use region_map::map::MMIO;
-use region_map::map::RegionOffset;
+use device_words::rules::device_ok;
+use device_words::words::block_size;
+use device_words::words::plugged;
+use device_words::words::region_size;
+use guest_view::find::near;
+use guest_view::place::offset_in;
+use guest_view::place::place_of;
+use guest_view::reach::is_plugged;
+use guest_view::rules::view_ok;
+use map_records::map::GuestAddress;
+use map_records::map::MANAGED;
+use map_records::map::MMIO;
+use map_records::map::RegionOffset;
+use map_records::words::count_of;
+use map_records::words::range_at;
+
+// Given no device, no block is plugged: a table of zeros, over blocks of any size.
+const ANY_BLOCK_SIZE: u64 = 4096;
 
 // A refusal's number, a memory place, or a port and the offset in its region.
 pub enum RouteAnswer {
@@ -37,7 +47,33 @@ fn width_ok(w: u64) -> bool
     (w == 1) | (w == 2) | (w == 4) | (w == 8)
 }
 
-// Is each later byte the same region at the next offset? In one range it is; else byte by byte.
+// Is each later byte the same region at the next offset? Byte by byte, for an access across an edge.
+fn bytes_follow(view: &[u64], at: usize, a: GuestAddress, w: u64) -> bool
+    requires { ⌜ Judged (now view) ⌝ }
+    requires { ⌜ Spot (viewOf (now view)) (a .0) at ⌝ }
+    requires { ⌜ (at < (viewOf (now view)) .count) × (0 < w) × (w ≤ 8) ⌝ }
+    ensures { λ r. ⌜ r ≡ allBelow (λ i. follows (leafAt (entries (viewOf (now (view .entry)))) (a .0)) i (leafAt (entries (viewOf (now (view .entry)))) (a .0 + i))) w ⌝ }
+{
+    let range = range_at(view, at);
+    let offset = offset_in(range, a);
+    let mut i: u64 = 1;
+    while i < w {
+        let b = GuestAddress(a.0 + i);
+        let here = near(view, at, b);
+        if count_of(view) <= here {
+            return false;
+        }
+        let other = range_at(view, here);
+        let there = offset_in(other, b);
+        if !((other.region == range.region) & (there.0 == offset.0 + i)) {
+            return false;
+        }
+        i += 1;
+    }
+    true
+}
+
+// In one range it is.
 fn is_whole(view: &[u64], at: usize, a: GuestAddress, w: u64) -> bool
     requires { ⌜ Judged (now view) ⌝ }
     requires { ⌜ Spot (viewOf (now view)) (a .0) at ⌝ }
@@ -48,45 +84,42 @@ fn is_whole(view: &[u64], at: usize, a: GuestAddress, w: u64) -> bool
     if w - 1 <= range.last.0 - a.0 {
         return true;
     }
-    let offset = range.offset.0 + (a.0 - range.first.0);
-    let mut here = at;
-    let mut i: u64 = 1;
-    while i < w {
-        let b = a.0 + i;
-        here = near(view, here, GuestAddress(b));
-        if count_of(view) <= here {
-            return false;
-        }
-        let other = range_at(view, here);
-        let there = other.offset.0 + (b - other.first.0);
-        if !((other.region == range.region) & (there == offset + i)) {
-            return false;
-        }
-        i += 1;
-    }
-    true
+    bytes_follow(view, at, a, w)
 }
 
-// Are the blocks of an access plugged? Its first and last byte tell, since no block is shorter than it.
-fn is_plugged(device: MemoryDevice, offset: u64, w: u64) -> bool
-    requires { ⌜ (8 ≤ device .«block_size») × (0 < w) × (w ≤ 8) × (offset < 281474976710656) ⌝ }
-    ensures { λ r. ⌜ r ≡ allBelow (λ i. pluggedAt device (offset + i)) w ⌝ }
+// Are the blocks of an access plugged? They are at most two, since no block is shorter than it.
+fn blocks_plugged(block: u64, plugged: &[u64], offset: RegionOffset, w: u64) -> bool
+    requires { ⌜ (8 ≤ block) × (length (now plugged) ≡ 16) ⌝ }
+    requires { ⌜ (0 < w) × (w ≤ 8) × (offset .0 < 281474976710656) ⌝ }
+    ensures { λ r. ⌜ r ≡ allBelow (λ i. pluggedIn block (now (plugged .entry)) (offset .0 + i)) w ⌝ }
 {
-    let first = device.holds(RegionOffset(offset));
-    let last = device.holds(RegionOffset(offset + (w - 1)));
-    first & last
+    if !is_plugged(block, plugged, offset) {
+        return false;
+    }
+    if w - 1 <= block - 1 - offset.0 % block {
+        return true;
+    }
+    let last = RegionOffset(offset.0 + (w - 1));
+    is_plugged(block, plugged, last)
 }
 
-// An access over a view that was judged.
-fn route_judged(view: &[u64], device: MemoryDevice, a: GuestAddress, w: u64) -> RouteAnswer
+// An access over a view that was judged, with what the search for its first byte gave.
+fn route_at(
+    view: &[u64],
+    block: u64,
+    plugged: &[u64],
+    at: usize,
+    a: GuestAddress,
+    w: u64,
+) -> RouteAnswer
     requires { ⌜ Judged (now view) ⌝ }
-    requires { ⌜ 8 ≤ device .«block_size» ⌝ }
-    ensures { λ r. ⌜ r ≡ routed (leafAt (entries (viewOf (now (view .entry))))) (pluggedAt device) (a .0) w ⌝ }
+    requires { ⌜ (8 ≤ block) × (length (now plugged) ≡ 16) ⌝ }
+    requires { ⌜ Spot (viewOf (now view)) (a .0) at ⌝ }
+    ensures { λ r. ⌜ r ≡ routed (leafAt (entries (viewOf (now (view .entry))))) (pluggedIn block (now (plugged .entry))) (a .0) w ⌝ }
 {
     if !width_ok(w) {
         return RouteAnswer::Refused(23);
     }
-    let at = near(view, 0, a);
     if count_of(view) <= at {
         return RouteAnswer::Refused(24);
     }
@@ -94,45 +127,43 @@ fn route_judged(view: &[u64], device: MemoryDevice, a: GuestAddress, w: u64) -> 
         return RouteAnswer::Refused(25);
     }
     let range = range_at(view, at);
-    let offset = range.offset.0 + (a.0 - range.first.0);
+    let offset = offset_in(range, a);
     if range.kind == MMIO {
-        return RouteAnswer::Port(range.base, RegionOffset(offset));
+        return RouteAnswer::Port(range.base, offset);
     }
     if range.kind == MANAGED {
-        if !is_plugged(device, offset, w) {
+        if !blocks_plugged(block, plugged, offset, w) {
             return RouteAnswer::Refused(26);
         }
     }
-    RouteAnswer::Memory(range.base + offset)
+    let place = place_of(range.base, offset);
+    RouteAnswer::Memory(place)
 }
 
-// A record in whose region nothing is plugged.
-fn no_device() -> MemoryDevice
-    ensures { λ r. ⌜ r ≡ noDevice ⌝ }
+// One access over a view that was judged.
+fn route_judged(view: &[u64], block: u64, plugged: &[u64], a: GuestAddress, w: u64) -> RouteAnswer
+    requires { ⌜ Judged (now view) ⌝ }
+    requires { ⌜ (8 ≤ block) × (length (now plugged) ≡ 16) ⌝ }
+    ensures { λ r. ⌜ r ≡ routed (leafAt (entries (viewOf (now (view .entry))))) (pluggedIn block (now (plugged .entry))) (a .0) w ⌝ }
 {
-    MemoryDevice {
-        block_size: 4096,
-        addr: 0,
-        region_size: 0,
-        usable_size: 0,
-        requested_size: 0,
-        plugged: [0u64; 16],
-        pinned: [0u64; 16],
-    }
+    let at = near(view, 0, a);
+    route_at(view, block, plugged, at, a, w)
 }
 
-// An access with a device.
+// An access with a device. A slice of another length is no device, 27.
 pub fn route(
     view: &[u64],
     memory_length: u64,
-    device: MemoryDevice,
+    device: &[u64],
     address: GuestAddress,
     width: u64,
 ) -> RouteAnswer
-    ensures { λ r. ⌜ r ≡ routedWith (viewOf (now (view .entry))) «memory_length» device (address .0) width ⌝ }
+    ensures { λ r. ⌜ r ≡ routedWith (viewOf (now (view .entry))) «memory_length» (deviceOf (now (device .entry))) (address .0) width ⌝ }
 {
-    if view_ok(view, memory_length, device.region_size) & device.keeps_rules() {
-        return route_judged(view, device, address, width);
+    if device_ok(device) {
+        if view_ok(view, memory_length, region_size(device)) {
+            return route_judged(view, block_size(device), plugged(device), address, width);
+        }
     }
     RouteAnswer::Refused(27)
 }
@@ -147,7 +178,8 @@ pub fn route_without_device(
     ensures { λ r. ⌜ r ≡ routedWithout (viewOf (now (view .entry))) «memory_length» (address .0) width ⌝ }
 {
     if view_ok(view, memory_length, NO_REGION) {
-        return route_judged(view, no_device(), address, width);
+        let table = [0u64; 16];
+        return route_judged(view, ANY_BLOCK_SIZE, &table, address, width);
     }
     RouteAnswer::Refused(27)
 }
@@ -186,19 +218,21 @@ fn put_answer(answers: &mut [u64], i: usize, answer: RouteAnswer)
     }
 }
 
-// Each access in turn, over a view that was judged.
-fn routes_judged(view: &[u64], device: MemoryDevice, accesses: &[u64], answers: &mut [u64])
+// Each access in turn, over a view that was judged. The range of the one before is tried first.
+fn routes_judged(view: &[u64], block: u64, plugged: &[u64], accesses: &[u64], answers: &mut [u64])
     requires { ⌜ Judged (now view) ⌝ }
-    requires { ⌜ 8 ≤ device .«block_size» ⌝ }
+    requires { ⌜ (8 ≤ block) × (length (now plugged) ≡ 16) ⌝ }
     requires { ⌜ answersFit (now accesses) (now answers) ≡ true ⌝ }
-    ensures { λ _. ⌜ now (answers .exit) ≡ answersTo (routed (leafAt (entries (viewOf (now (view .entry))))) (pluggedAt device)) (now (accesses .entry)) 0 (length (now (accesses .entry)) / 2) ⌝ }
+    ensures { λ _. ⌜ now (answers .exit) ≡ answersTo (routed (leafAt (entries (viewOf (now (view .entry))))) (pluggedIn block (now (plugged .entry)))) (now (accesses .entry)) 0 (length (now (accesses .entry)) / 2) ⌝ }
 {
     let count = accesses.len() / 2;
+    let mut at: usize = 0;
     let mut i: usize = 0;
     while i < count {
         let a = GuestAddress(accesses[2 * i]);
         let w = accesses[2 * i + 1];
-        let answer = route_judged(view, device, a, w);
+        at = near(view, at, a);
+        let answer = route_at(view, block, plugged, at, a, w);
         put_answer(answers, i, answer);
         i += 1;
     }
@@ -215,16 +249,19 @@ fn answers_fit(accesses: &[u64], answers: &[u64]) -> bool
 pub fn route_all(
     view: &[u64],
     memory_length: u64,
-    device: MemoryDevice,
+    device: &[u64],
     accesses: &[u64],
     answers: &mut [u64],
 ) -> u64
-    ensures { λ r. ⌜ (r ≡ allWith (viewOf (now (view .entry))) «memory_length» device (now (accesses .entry)) (now (answers .entry)) .number) × (now (answers .exit) ≡ allWith (viewOf (now (view .entry))) «memory_length» device (now (accesses .entry)) (now (answers .entry)) .answers) ⌝ }
+    ensures { λ r. ⌜ (r ≡ allWith (viewOf (now (view .entry))) «memory_length» (deviceOf (now (device .entry))) (now (accesses .entry)) (now (answers .entry)) .number)
+        × (now (answers .exit) ≡ allWith (viewOf (now (view .entry))) «memory_length» (deviceOf (now (device .entry))) (now (accesses .entry)) (now (answers .entry)) .answers) ⌝ }
 {
-    let ok = view_ok(view, memory_length, device.region_size) & device.keeps_rules();
-    if ok & answers_fit(accesses, answers) {
-        routes_judged(view, device, accesses, answers);
-        return 0;
+    if device_ok(device) {
+        let ok = view_ok(view, memory_length, region_size(device));
+        if ok & answers_fit(accesses, answers) {
+            routes_judged(view, block_size(device), plugged(device), accesses, answers);
+            return 0;
+        }
     }
     27
 }
@@ -236,11 +273,13 @@ pub fn route_all_without_device(
     accesses: &[u64],
     answers: &mut [u64],
 ) -> u64
-    ensures { λ r. ⌜ (r ≡ allWithout (viewOf (now (view .entry))) «memory_length» (now (accesses .entry)) (now (answers .entry)) .number) × (now (answers .exit) ≡ allWithout (viewOf (now (view .entry))) «memory_length» (now (accesses .entry)) (now (answers .entry)) .answers) ⌝ }
+    ensures { λ r. ⌜ (r ≡ allWithout (viewOf (now (view .entry))) «memory_length» (now (accesses .entry)) (now (answers .entry)) .number)
+        × (now (answers .exit) ≡ allWithout (viewOf (now (view .entry))) «memory_length» (now (accesses .entry)) (now (answers .entry)) .answers) ⌝ }
 {
     let ok = view_ok(view, memory_length, NO_REGION);
     if ok & answers_fit(accesses, answers) {
-        routes_judged(view, no_device(), accesses, answers);
+        let table = [0u64; 16];
+        routes_judged(view, ANY_BLOCK_SIZE, &table, accesses, answers);
         return 0;
     }
     27

@@ -1,14 +1,14 @@
-// A run of steps.
+// A run of steps, with the device changed where it lies.
 ghost use mathlib.Core.Path.{_≡_};
 ghost use Prim.Native.Nat.{_≤_, min};
-ghost use Rattle.virtqueue.specs.Words.{viewOf};
-ghost use Rattle.virtqueue.specs.Run.{ran};
-use crate::find::near;
+ghost use Rattle.map_records.specs.Words.{viewOf};
+ghost use Rattle.device_words.specs.Words.{deviceOf};
+ghost use Rattle.virtqueue.specs.Run.{RunLeaves, ran};
+use crate::in_place::records_ok;
 use crate::queue::SplitQueue;
 use crate::serve::step_judged;
 use crate::step::StepOutcome;
-use crate::step::records_ok;
-use memory_device::device::MemoryDevice;
+use guest_view::find::near;
 
 // The most steps of a run.
 const STEPS: u64 = 256;
@@ -20,12 +20,11 @@ pub enum RunEnd {
     Refused(u8),
 }
 
-// How many steps were served, whether one of them notified, the end, and the next state.
+// How many steps were served, whether one of them notified, the end, and the queue's next state.
 pub struct Ran {
     pub served: u64,
     pub notified: bool,
     pub end: RunEnd,
-    pub device: MemoryDevice,
     pub queue: SplitQueue,
 }
 
@@ -36,25 +35,19 @@ fn at_most(k: u64, most: u64) -> u64
 }
 
 // Up to k steps, at most 256. The records are judged once.
-pub fn run_steps(
-    view: &[u64],
-    device: MemoryDevice,
-    queue: SplitQueue,
-    mem: &mut [u8],
-    k: u64,
-) -> Ran
-    ensures { λ r. ⌜ (r ≡ ran (viewOf (now (view .entry))) device queue (now (mem .entry)) k .result) × (now (mem .exit) ≡ ran (viewOf (now (view .entry))) device queue (now (mem .entry)) k .memory) ⌝ }
+pub fn run_steps(view: &[u64], device: &mut [u64], queue: SplitQueue, mem: &mut [u8], k: u64) -> Ran
+    ensures { λ r. ⌜ RunLeaves (now (device .entry))
+        (ran (viewOf (now (view .entry))) (deviceOf (now (device .entry))) queue (now (mem .entry)) k)
+        r (now (device .exit)) (now (mem .exit)) ⌝ }
 {
     if !records_ok(view, device, queue, mem.len() as u64) {
         return Ran {
             served: 0,
             notified: false,
             end: RunEnd::Refused(27),
-            device: device,
             queue: queue,
         };
     }
-    let mut device_now = device;
     let mut queue_now = queue;
     let mut served: u64 = 0;
     let mut notified = false;
@@ -62,8 +55,7 @@ pub fn run_steps(
     let most = at_most(k, STEPS);
     let hint = near(view, 0, queue.available);
     while served < most {
-        let s = step_judged(view, device_now, queue_now, mem, hint);
-        device_now = s.device;
+        let s = step_judged(view, device, queue_now, mem, hint);
         queue_now = s.queue;
         let outcome = s.outcome;
         match outcome {
@@ -85,7 +77,6 @@ pub fn run_steps(
         served: served,
         notified: notified,
         end: end,
-        device: device_now,
         queue: queue_now,
     }
 }

@@ -3,36 +3,40 @@ ghost use mathlib.Core.Path.{_≡_};
 ghost use mathlib.Core.Bool.{true};
 ghost use Prim.Native.Nat.{_<_};
 ghost use lib.ListN.{length};
-ghost use Rattle.memory_device.specs.Device.{deviceOk};
-ghost use Rattle.virtqueue.specs.Words.{viewOf};
-ghost use Rattle.virtqueue.specs.Guest.{byView};
+ghost use Rattle.device_words.specs.Device.{Sized, deviceOk};
+ghost use Rattle.guest_view.specs.Guest.{byView};
+ghost use Rattle.map_records.specs.Words.{viewOf};
+ghost use Rattle.guest_view.specs.Contracts.{Judged, Backed, Within, placeIn};
+ghost use Rattle.device_words.specs.Words.{deviceOf, deviceWords};
 ghost use Rattle.virtqueue.specs.Queue.{queueOk, stoppedBy, advanced as advancedQueue};
-ghost use Rattle.virtqueue.specs.Step.{usedPlaces, usedBytes, servedResult, servedMemory, steppedBy};
-ghost use Rattle.virtqueue.specs.Contracts.{Judged, Backed, Within, UsedIn, placeIn};
-use crate::memory::copy_places;
-use crate::memory::write_bytes;
+ghost use Rattle.virtqueue.specs.Step.{usedPlaces, usedBytes, carrying, servedMemory, steppedBy};
+ghost use Rattle.virtqueue.specs.Moved.{Leaves};
+ghost use Rattle.virtqueue.specs.Contracts.{UsedIn};
 use crate::queue::SplitQueue;
+use crate::ring::used_entry;
+use crate::ring::used_idx;
+use crate::step::Moved;
 use crate::step::StepOutcome;
-use crate::step::Stepped;
-use crate::take::Taken;
 use crate::take::TakenOffer;
 use crate::take::take;
-use crate::take::used_entry;
-use crate::take::used_idx;
-use memory_device::device::MemoryDevice;
+use device_words::answer::respond;
+use device_words::words::block_size;
+use device_words::words::plugged;
+use guest_view::memory::find_places;
+use guest_view::memory::write_bytes;
 
 // The places of the used ring's ten bytes: the slot's eight, then idx.
-fn used_places(view: &[u64], queue: SplitQueue, hint: usize) -> [usize; 10]
+fn used_places(view: &[u64], queue: SplitQueue, hint: usize, out: &mut [usize])
     requires { ⌜ Judged (now view) ⌝ }
     requires { ⌜ queueOk queue ≡ true ⌝ }
     requires { ⌜ UsedIn (viewOf (now view)) queue ⌝ }
-    ensures { λ r. ⌜ r ≡ usedPlaces (placeIn (viewOf (now (view .entry)))) queue ⌝ }
+    requires { ⌜ length (now out) ≡ 10 ⌝ }
+    ensures { λ _. ⌜ now (out .exit) ≡ usedPlaces (placeIn (viewOf (now (view .entry)))) queue ⌝ }
 {
-    let none = [0usize; 10];
-    let entry = used_entry(queue);
-    let idx = used_idx(queue);
-    let slot = copy_places(view, hint, none, 0, entry, 8);
-    copy_places(view, hint, slot, 8, idx, 2)
+    let entry = used_entry(queue.used, queue.next_used, queue.size);
+    let idx = used_idx(queue.used);
+    find_places(view, hint, entry, &mut out[0..8]);
+    find_places(view, hint, idx, &mut out[8..10]);
 }
 
 // And the bytes: the head, 10, and the next count.
@@ -68,71 +72,75 @@ fn stopped(queue: SplitQueue, stop: u8) -> SplitQueue
     next
 }
 
-// A chain that is ready: the request is carried out, and the response and the used ring are written.
+// The request is carried out where the device lies; then its response is written, then the used ring.
 fn serve(
-    view: &[u64],
-    device: MemoryDevice,
-    queue: SplitQueue,
+    device: &mut [u64],
     mem: &mut [u8],
-    chain: Taken,
-    head: u64,
-    notify: bool,
-    hint: usize,
-) -> Stepped
-    requires { ⌜ Judged (now view) ⌝ }
-    requires { ⌜ deviceOk device ≡ true ⌝ }
-    requires { ⌜ queueOk queue ≡ true ⌝ }
-    requires { ⌜ UsedIn (viewOf (now view)) queue ⌝ }
-    requires { ⌜ Backed (viewOf (now view)) (length (now mem)) ⌝ }
-    requires { ⌜ Within (chain .places) (length (now mem)) ⌝ }
-    requires { ⌜ head < 65536 ⌝ }
-    ensures { λ r. ⌜ (r ≡ servedResult device queue notify (chain .request)) × (now (mem .exit) ≡ servedMemory (placeIn (viewOf (now (view .entry)))) device queue head (chain .request) (chain .places) (now (mem .entry))) ⌝ }
+    request: [u8; 24],
+    places: &[usize],
+    used: &[usize],
+    bytes: &[u8],
+)
+    requires { ⌜ (length (now device) ≡ 37) × Sized (deviceOf (now device)) ⌝ }
+    requires { ⌜ (length (now places) ≡ 10) × Within (now places) (length (now mem)) ⌝ }
+    requires { ⌜ (length (now used) ≡ length (now bytes)) × Within (now used) (length (now mem)) ⌝ }
+    ensures { λ _. ⌜ (now (device .exit) ≡ deviceWords (carrying (deviceOf (now (device .entry))) request .device))
+        × (now (mem .exit) ≡ servedMemory (now (mem .entry)) (now (places .entry))
+        (carrying (deviceOf (now (device .entry))) request .response) (now (used .entry)) (now (bytes .entry))) ⌝ }
 {
-    let request = chain.request;
-    let places = chain.places;
-    let answered = device.respond_to(request);
-    let response = answered.response;
-    let next = answered.device;
-    let used = used_places(view, queue, hint);
-    let bytes = used_bytes(head, queue.next_used);
-    write_bytes(mem, places, response);
+    let response = respond(device, request);
+    write_bytes(mem, places, &response);
     write_bytes(mem, used, bytes);
-    Stepped {
-        outcome: StepOutcome::Served(notify),
-        device: next,
-        queue: advanced(queue),
-    }
 }
 
-// One step on records that keep 27's rules.
+// One step on records that keep 27's rules. The device is changed where it lies, once, by the request.
 pub fn step_judged(
     view: &[u64],
-    device: MemoryDevice,
+    device: &mut [u64],
     queue: SplitQueue,
     mem: &mut [u8],
     hint: usize,
-) -> Stepped
+) -> Moved
     requires { ⌜ Judged (now view) ⌝ }
     requires { ⌜ Backed (viewOf (now view)) (length (now mem)) ⌝ }
-    requires { ⌜ deviceOk device ≡ true ⌝ }
+    requires { ⌜ (length (now device) ≡ 37) × (deviceOk (deviceOf (now device)) ≡ true) ⌝ }
     requires { ⌜ queueOk queue ≡ true ⌝ }
-    ensures { λ r. ⌜ (r ≡ steppedBy (byView (viewOf (now (view .entry))) device) device queue (now (mem .entry)) .result) × (now (mem .exit) ≡ steppedBy (byView (viewOf (now (view .entry))) device) device queue (now (mem .entry)) .memory) ⌝ }
+    ensures { λ r. ⌜ Leaves
+        (steppedBy (byView (viewOf (now (view .entry))) (deviceOf (now (device .entry))))
+        (deviceOf (now (device .entry))) queue (now (mem .entry)))
+        r (now (device .exit)) (now (mem .exit)) ⌝ }
 {
-    let chain = take(view, device, queue, mem, hint);
-    let offer = chain.offer;
+    let mut request = [0u8; 24];
+    let mut places = [0usize; 10];
+    let block = block_size(device);
+    let offer = take(
+        view,
+        block,
+        plugged(device),
+        queue,
+        mem,
+        hint,
+        &mut request,
+        &mut places,
+    );
     match offer {
-        TakenOffer::Stop(k) => Stepped {
+        TakenOffer::Stop(k) => Moved {
             outcome: StepOutcome::Refused(k),
-            device: device,
             queue: stopped(queue, k),
         },
-        TakenOffer::Idle => Stepped {
+        TakenOffer::Idle => Moved {
             outcome: StepOutcome::Idle,
-            device: device,
             queue: queue,
         },
         TakenOffer::Ready(head, notify) => {
-            serve(view, device, queue, mem, chain, head, notify, hint)
-        },
+            let mut used = [0usize; 10];
+            used_places(view, queue, hint, &mut used);
+            let bytes = used_bytes(head, queue.next_used);
+            serve(device, mem, request, &places, &used, &bytes);
+            Moved {
+                outcome: StepOutcome::Served(notify),
+                queue: advanced(queue),
+            }
+        }
     }
 }

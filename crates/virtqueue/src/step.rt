@@ -1,14 +1,15 @@
-// One step of the queue.
+// One step of the queue, with records by value.
 ghost use mathlib.Core.Path.{_≡_};
-ghost use Rattle.virtqueue.specs.Words.{viewOf};
-ghost use Rattle.virtqueue.specs.Step.{recordsOk, stepped, stepReply};
 ghost use Rattle.region_map.specs.Reply.{numberOf};
+ghost use Rattle.map_records.specs.Words.{viewOf};
+ghost use Rattle.memory_device.specs.Record.{recordOf};
+ghost use Rattle.virtqueue.specs.Step.{stepped, stepReply};
+ghost use Rattle.virtqueue.specs.ByValue.{steppedOf};
+use crate::in_place::step_in_place;
 use crate::queue::SplitQueue;
-use crate::rules::view_ok;
-use crate::serve::step_judged;
-use crate::view::words_of;
 use memory_device::device::MemoryDevice;
-use region_map::view::FlatView;
+use memory_device::device::device_of;
+use memory_device::device::words_of;
 
 // A refusal's number (27, or the number that stops the queue), nothing to do, or a chain served, and
 // whether to notify the guest.
@@ -18,6 +19,12 @@ pub enum StepOutcome {
     Served(bool),
 }
 
+// The outcome, and the queue's next state, where the device was changed in its place.
+pub struct Moved {
+    pub outcome: StepOutcome,
+    pub queue: SplitQueue,
+}
+
 // The outcome, and the next state of the device and the queue.
 pub struct Stepped {
     pub outcome: StepOutcome,
@@ -25,33 +32,21 @@ pub struct Stepped {
     pub queue: SplitQueue,
 }
 
-// Do the three records keep 27's rules, over a memory of this length?
-pub fn records_ok(view: &[u64], device: MemoryDevice, queue: SplitQueue, memory_length: u64) -> bool
-    ensures { λ r. ⌜ r ≡ recordsOk (viewOf (now (view .entry))) device queue «memory_length» ⌝ }
-{
-    view_ok(view, memory_length, device.region_size) & (device.keeps_rules() & queue.keeps_rules())
-}
-
 // Takes the next chain, if there is one, carries its request out and returns it.
 pub fn step(view: &[u64], device: MemoryDevice, queue: SplitQueue, mem: &mut [u8]) -> Stepped
-    ensures { λ r. ⌜ (r ≡ stepped (viewOf (now (view .entry))) device queue (now (mem .entry)) .result) × (now (mem .exit) ≡ stepped (viewOf (now (view .entry))) device queue (now (mem .entry)) .memory) ⌝ }
+    ensures { λ r. ⌜ (r ≡ steppedOf (stepped (viewOf (now (view .entry))) (recordOf device) queue (now (mem .entry)) .result))
+        × (now (mem .exit) ≡ stepped (viewOf (now (view .entry))) (recordOf device) queue (now (mem .entry)) .memory) ⌝ }
 {
-    if records_ok(view, device, queue, mem.len() as u64) {
-        return step_judged(view, device, queue, mem, 0);
-    }
+    let mut words = words_of(device);
+    let moved = step_in_place(view, &mut words, queue, mem);
+    let outcome = moved.outcome;
+    let next = moved.queue;
+    let after = device_of(&words);
     Stepped {
-        outcome: StepOutcome::Refused(27),
-        device: device,
-        queue: queue,
+        outcome: outcome,
+        device: after,
+        queue: next,
     }
-}
-
-// The step over a view as a record.
-pub fn step_with(view: FlatView, device: MemoryDevice, queue: SplitQueue, mem: &mut [u8]) -> Stepped
-    ensures { λ r. ⌜ (r ≡ stepped view device queue (now (mem .entry)) .result) × (now (mem .exit) ≡ stepped view device queue (now (mem .entry)) .memory) ⌝ }
-{
-    let words = words_of(view);
-    step(&words, device, queue, mem)
 }
 
 // Document 01's number of the refusal, and 0 where nothing is refused.

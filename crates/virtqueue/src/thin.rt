@@ -1,12 +1,14 @@
 // The step over a queue record that lies in the caller's storage.
 ghost use mathlib.Core.Path.{_≡_};
+ghost use Rattle.map_records.specs.Words.{viewOf};
+ghost use Rattle.memory_device.specs.Record.{recordOf};
 ghost use Rattle.virtqueue.specs.Step.{stepped};
+ghost use Rattle.virtqueue.specs.ByValue.{steppedOf};
 ghost use Rattle.virtqueue.specs.Thin.{told};
 use crate::queue::SplitQueue;
 use crate::step::StepOutcome;
-use crate::step::step_with;
+use crate::step::step;
 use memory_device::device::MemoryDevice;
-use region_map::view::FlatView;
 
 // The outcome, and the device's next state.
 pub struct Advanced {
@@ -18,12 +20,14 @@ pub struct Advanced {
 pub fn advance(
     queue: &mut SplitQueue,
     mem: &mut [u8],
-    view: FlatView,
+    view: &[u64],
     device: MemoryDevice,
 ) -> Advanced
-    ensures { λ r. ⌜ (r ≡ told (stepped view device (now (queue .entry)) (now (mem .entry)) .result)) × (now (mem .exit) ≡ stepped view device (now (queue .entry)) (now (mem .entry)) .memory) × (now (queue .exit) ≡ stepped view device (now (queue .entry)) (now (mem .entry)) .result .queue) ⌝ }
+    ensures { λ r. ⌜ (r ≡ told (steppedOf (stepped (viewOf (now (view .entry))) (recordOf device) (now (queue .entry)) (now (mem .entry)) .result)))
+        × (now (mem .exit) ≡ stepped (viewOf (now (view .entry))) (recordOf device) (now (queue .entry)) (now (mem .entry)) .memory)
+        × (now (queue .exit) ≡ stepped (viewOf (now (view .entry))) (recordOf device) (now (queue .entry)) (now (mem .entry)) .result .queue) ⌝ }
 {
-    let s = step_with(view, device, *queue, mem);
+    let s = step(view, device, *queue, mem);
     *queue = s.queue;
     Advanced {
         outcome: s.outcome,

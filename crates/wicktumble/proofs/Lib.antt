@@ -1,3 +1,3 @@
 pub mod CallLaws
-pub mod DeviceWords
-pub mod WordLaws
+pub mod DeviceCalls
+pub mod QueueCalls

@@ -1,4 +1,4 @@
-pub mod Words
+pub mod Result
 pub mod Maps
 pub mod Devices
 pub mod Queues

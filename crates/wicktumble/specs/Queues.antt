@@ -1,94 +1,132 @@
 -- The calls over queues: making and reset, one step, a run of k. Assumes nothing: these are definitions.
+use mathlib.Core.Path.{_≡_}
 use mathlib.Core.Bool.{Bool, true, false, cond, _&&_}
-use mathlib.Core.List.{List}
-use Prim.Native.Nat.{ℕ}
+use mathlib.Core.List.{List, [], _∷_}
+use Prim.Native.Nat.{ℕ, _≤_}
 use lib.Dec.{eqb, leb}
-use Rattle.region_map.specs.Reply.{numberOf}
-use Rattle.virtqueue.specs.Queue.{areasOk, made, wasReset, queueReply}
-use Rattle.virtqueue.specs.Words.{viewOf}
+use lib.ListN.{length, getD}
+use Rattle.map_records.specs.Words.{viewOf}
+use Rattle.region_map.specs.Reply.{numberOf, passes}
+use Rattle.region_map.specs.Flatten.{isView}
+use Rattle.device_words.specs.Words.{isDevice, deviceOf, deviceWords}
+use Rattle.virtqueue.specs.Queue.{made, wasReset, queueReply}
 use Rattle.virtqueue.specs.Step.{Effect, stepped}
 use Rattle.virtqueue.specs.Run.{RunEffect, ran}
+use Rattle.virtqueue.specs.declared.queue.SplitQueue.{SplitQueue}
+use Rattle.virtqueue.specs.declared.queue.QueueGiven.{QueueGiven}
 use Rattle.virtqueue.specs.declared.step.StepOutcome.{StepOutcome}
 use Rattle.virtqueue.specs.declared.step.StepOutcome.the-variants as outcome
 use Rattle.virtqueue.specs.declared.run.RunEnd.{RunEnd}
 use Rattle.virtqueue.specs.declared.run.RunEnd.the-variants as end
-use Rattle.wicktumble.specs.Words.{deviceOf, deviceWords, queueFits, queueOf, queueWords, three, isView, isDevice, isQueue, isResult}
+use Rattle.wicktumble.specs.Result.{Told, Tells, told, untold, isResult}
 use Rattle.wicktumble.specs.Devices.{Changed}
 
--- a size past 16 bits is no power of two from 1 to 256: 16
+-- ---- a queue as 7 words
+
+abbrev pub isQueue : List ℕ → Bool
+isQueue w = eqb (length w) 7
+
+-- 7 words, none wider than its field
+unfoldable pub queueFits : List ℕ → Bool
+queueFits w =
+    isQueue w && (leb (getD w 0 0) 65535 && (leb (getD w 4 0) 65535 && (leb (getD w 5 0) 65535 && leb (getD w 6 0) 255)))
+
+-- what that says of each word
+pub record QueueWidths (w : List ℕ) : Type 0 where
+  pub seven : length w ≡ 7
+  pub size : getD w 0 0 ≤ 65535
+  pub available : getD w 4 0 ≤ 65535
+  pub used : getD w 5 0 ≤ 65535
+  pub stop : getD w 6 0 ≤ 255
+
+unfoldable pub queueOf : List ℕ → SplitQueue
+queueOf w =
+    record {
+      size = getD w 0 0;
+      descriptors = record { 0 = getD w 1 0 };
+      available = record { 0 = getD w 2 0 };
+      used = record { 0 = getD w 3 0 };
+      «next_available» = getD w 4 0;
+      «next_used» = getD w 5 0;
+      stop = getD w 6 0;
+    }
+
+unfoldable pub queueWords : SplitQueue → List ℕ
+queueWords q =
+    q .size ∷ q .descriptors .0 ∷ q .available .0 ∷ q .used .0 ∷ q .«next_available» ∷ q .«next_used» ∷ q .stop ∷ []
+
+-- ---- making and reset: the words of the queue that is given, or on a refusal those that were there
+
+abbrev pub gives : QueueGiven → List ℕ → Changed
+gives g w = record { number = numberOf (queueReply (g .answer)); words = cond (passes (queueReply (g .answer))) (queueWords (g .queue)) w }
+
+abbrev pub ungiven : List ℕ → Changed
+ungiven w = record { number = 27; words = w }
+
 unfoldable pub makeCall : ℕ → ℕ → ℕ → ℕ → List ℕ → Changed
-makeCall size descriptors available used w =
-    cond (isQueue w)
-    (cond (areasOk size descriptors available used)
-    (record { number = 0; words = queueWords (made size descriptors available used .queue) }) (record { number = 16; words = w }))
-    (record { number = 27; words = w })
+makeCall size descriptors available used w = cond (isQueue w) (gives (made size descriptors available used) w) (ungiven w)
 
 unfoldable pub resetQueueCall : List ℕ → Changed
-resetQueueCall w =
-    cond (isQueue w && queueFits w)
-    (record { number = numberOf (queueReply (wasReset (queueOf w) .answer)); words = queueWords (wasReset (queueOf w) .queue) })
-    (record { number = 27; words = w })
+resetQueueCall w = cond (queueFits w) (gives (wasReset (queueOf w)) w) (ungiven w)
 
--- what a step or a run leaves
-pub record Stepping : Type 0 where
-  pub number : ℕ
+-- ---- what a step or a run leaves in the lent words and in memory, and what it tells
+
+pub record Left : Type 0 where
   pub device : List ℕ
   pub queue : List ℕ
   pub memory : List ℕ
-  pub result : List ℕ
+  pub told : Told
 
-abbrev pub unstepped : List ℕ → List ℕ → List ℕ → List ℕ → Stepping
-unstepped device queue memory result = record { number = 27; device = device; queue = queue; memory = memory; result = result }
+-- the number n, and d, q, m and x left in the device's, the queue's, memory's and the result's, are what c says
+abbrev pub Leaves : Left → ℕ → List ℕ → List ℕ → List ℕ → List ℕ → Type 0
+Leaves c n d q m x = (d ≡ c .device) × (q ≡ c .queue) × (m ≡ c .memory) × Tells (c .told) n x
+
+abbrev pub unmoved : List ℕ → List ℕ → List ℕ → List ℕ → Left
+unmoved device queue memory result = record { device = device; queue = queue; memory = memory; told = untold result }
 
 -- the lengths of the records and the widths of the queue's fields
 abbrev pub recordsFit : List ℕ → List ℕ → List ℕ → List ℕ → Bool
-recordsFit view device queue result = isView view && (isDevice device && (isQueue queue && (isResult result && queueFits queue)))
+recordsFit view device queue result = isView view && (isDevice device && (queueFits queue && isResult result))
 
-abbrev pub outcomeNumber : StepOutcome → ℕ
-outcomeNumber (outcome.Refused n) = n
-outcomeNumber outcome.Idle = 0
-outcomeNumber (outcome.Served notify) = 0
+abbrev pub flag : Bool → ℕ
+flag b = cond b 1 0
 
 -- served, notify
-abbrev pub outcomeWords : StepOutcome → List ℕ
-outcomeWords (outcome.Refused n) = three 0 0 0
-outcomeWords outcome.Idle = three 0 0 0
-outcomeWords (outcome.Served notify) = three 1 (cond notify 1 0) 0
+abbrev pub outcomeTold : StepOutcome → Told
+outcomeTold (outcome.Refused n) = told n 0 0 0
+outcomeTold outcome.Idle = told 0 0 0 0
+outcomeTold (outcome.Served notify) = told 0 1 (flag notify) 0
 
-abbrev pub steps : Effect → Stepping
+abbrev pub steps : Effect → Left
 steps e =
     record {
-      number = outcomeNumber (e .result .outcome);
       device = deviceWords (e .result .device);
       queue = queueWords (e .result .queue);
       memory = e .memory;
-      result = outcomeWords (e .result .outcome);
+      told = outcomeTold (e .result .outcome);
     }
 
-unfoldable pub stepCall : List ℕ → List ℕ → List ℕ → List ℕ → List ℕ → Stepping
+unfoldable pub stepCall : List ℕ → List ℕ → List ℕ → List ℕ → List ℕ → Left
 stepCall view device queue memory result =
-    cond (recordsFit view device queue result) (steps (stepped (viewOf view) (deviceOf device) (queueOf queue) memory)) (unstepped device queue memory result)
+    cond (recordsFit view device queue result) (steps (stepped (viewOf view) (deviceOf device) (queueOf queue) memory))
+    (unmoved device queue memory result)
 
-abbrev pub endNumber : RunEnd → ℕ
-endNumber end.AllDone = 0
-endNumber end.Idle = 0
-endNumber (end.Refused n) = n
+-- steps served, whether one notified, whether the end was idle
+abbrev pub endTold : ℕ → Bool → RunEnd → Told
+endTold served notified end.AllDone = told 0 served (flag notified) 0
+endTold served notified end.Idle = told 0 served (flag notified) 1
+endTold served notified (end.Refused n) = told n served (flag notified) 0
 
-abbrev pub isIdle : RunEnd → ℕ
-isIdle end.AllDone = 0
-isIdle end.Idle = 1
-isIdle (end.Refused n) = 0
-
-abbrev pub runs : RunEffect → Stepping
+abbrev pub runs : RunEffect → Left
 runs e =
     record {
-      number = endNumber (e .result .end);
-      device = deviceWords (e .result .device);
+      device = deviceWords (e .device);
       queue = queueWords (e .result .queue);
       memory = e .memory;
-      result = three (e .result .served) (cond (e .result .notified) 1 0) (isIdle (e .result .end));
+      told = endTold (e .result .served) (e .result .notified) (e .result .end);
     }
 
-unfoldable pub runCall : List ℕ → List ℕ → List ℕ → List ℕ → ℕ → List ℕ → Stepping
+unfoldable pub runCall : List ℕ → List ℕ → List ℕ → List ℕ → ℕ → List ℕ → Left
 runCall view device queue memory k result =
-    cond (recordsFit view device queue result) (runs (ran (viewOf view) (deviceOf device) (queueOf queue) memory k)) (unstepped device queue memory result)
+    cond (recordsFit view device queue result) (runs (ran (viewOf view) (deviceOf device) (queueOf queue) memory k))
+    (unmoved device queue memory result)

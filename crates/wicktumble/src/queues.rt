@@ -1,21 +1,38 @@
 // The split queue: making and reset, one step, a run of steps.
 ghost use mathlib.Core.Path.{_≡_};
-ghost use mathlib.Core.Bool.{cond};
 ghost use lib.ListN.{length};
-ghost use Rattle.wicktumble.specs.Queues.{makeCall, resetQueueCall, stepCall, runCall, recordsFit, outcomeNumber, outcomeWords, endNumber, isIdle};
-use crate::words::device_of;
-use crate::words::put_device;
-use crate::words::put_queue;
-use crate::words::put_three;
-use crate::words::queue_fits;
-use crate::words::queue_of;
-use region_map::map::GuestAddress;
+ghost use Rattle.wicktumble.specs.Result.{toldBy};
+ghost use Rattle.wicktumble.specs.Devices.{Changes};
+ghost use Rattle.wicktumble.specs.Queues.{gives, makeCall, resetQueueCall, recordsFit, flag};
+ghost use Rattle.wicktumble.specs.Queues.{Leaves, outcomeTold, stepCall, endTold, runCall};
+use crate::queue_words::put_queue;
+use crate::queue_words::queue_fits;
+use crate::queue_words::queue_of;
+use crate::result::Said;
+use crate::result::say;
+use crate::result::tell;
+use map_records::map::GuestAddress;
+use virtqueue::in_place::step_in_place;
 use virtqueue::queue;
+use virtqueue::queue::QueueGiven;
 use virtqueue::queue::make_queue;
 use virtqueue::run::RunEnd;
 use virtqueue::run::run_steps;
-use virtqueue::step;
 use virtqueue::step::StepOutcome;
+
+// A queue that was made or reset into its words, or nothing on a refusal; gives the number.
+fn put_given(queue: &mut [u64], given: QueueGiven) -> u64
+    requires { ⌜ length (now queue) ≡ 7 ⌝ }
+    ensures { λ r. ⌜ Changes (gives given (now (queue .entry))) r (now (queue .exit)) ⌝ }
+{
+    let answer = given.answer;
+    let number = queue::number_of(answer);
+    if number == 0 {
+        let fresh = given.queue;
+        put_queue(queue, fresh);
+    }
+    number
+}
 
 #[no_mangle]
 pub extern "C" fn wt_make_queue(
@@ -25,9 +42,10 @@ pub extern "C" fn wt_make_queue(
     used: u64,
     queue: &mut [u64],
 ) -> u64
-    ensures { λ r. ⌜ (r ≡ makeCall size descriptors available used (now (queue .entry)) .number) × (now (queue .exit) ≡ makeCall size descriptors available used (now (queue .entry)) .words) ⌝ }
+    ensures { λ r. ⌜ Changes (makeCall size descriptors available used (now (queue .entry))) r (now (queue .exit)) ⌝ }
 {
     if queue.len() == 7 {
+        // Past 16 bits it is no power of two from 1 to 256.
         if 65535 < size {
             return 16;
         }
@@ -37,30 +55,18 @@ pub extern "C" fn wt_make_queue(
             GuestAddress(available),
             GuestAddress(used),
         );
-        let said = made.answer;
-        let number = queue::number_of(said);
-        if number == 0 {
-            let fresh = made.queue;
-            put_queue(queue, fresh);
-        }
-        return number;
+        return put_given(queue, made);
     }
     27
 }
 
 #[no_mangle]
 pub extern "C" fn wt_reset_queue(queue: &mut [u64]) -> u64
-    ensures { λ r. ⌜ (r ≡ resetQueueCall (now (queue .entry)) .number) × (now (queue .exit) ≡ resetQueueCall (now (queue .entry)) .words) ⌝ }
+    ensures { λ r. ⌜ Changes (resetQueueCall (now (queue .entry))) r (now (queue .exit)) ⌝ }
 {
-    if queue.len() == 7 {
-        if queue_fits(queue) {
-            let given = queue_of(queue).reset();
-            let said = given.answer;
-            let next = given.queue;
-            put_queue(queue, next);
-            return queue::number_of(said);
-        }
-        return 27;
+    if queue_fits(queue) {
+        let given = queue_of(queue).reset();
+        return put_given(queue, given);
     }
     27
 }
@@ -69,27 +75,22 @@ pub extern "C" fn wt_reset_queue(queue: &mut [u64]) -> u64
 fn records_fit(view: &[u64], device: &[u64], queue: &[u64], result: &[u64]) -> bool
     ensures { λ r. ⌜ r ≡ recordsFit (now (view .entry)) (now (device .entry)) (now (queue .entry)) (now (result .entry)) ⌝ }
 {
-    if queue.len() == 7 {
-        return (view.len() == 1537)
-            & ((device.len() == 37) & ((result.len() == 3) & queue_fits(queue)));
-    }
-    false
+    (view.len() == 1537) & ((device.len() == 37) & (queue_fits(queue) & (result.len() == 3)))
 }
 
-fn put_outcome(result: &mut [u64], outcome: StepOutcome)
-    requires { ⌜ length (now result) ≡ 3 ⌝ }
-    ensures { λ _. ⌜ now (result .exit) ≡ outcomeWords outcome ⌝ }
+fn flag(b: bool) -> u64
+    ensures { λ r. ⌜ r ≡ flag b ⌝ }
+{
+    if b { 1 } else { 0 }
+}
+
+fn say_step(outcome: StepOutcome) -> Said
+    ensures { λ r. ⌜ toldBy r ≡ outcomeTold outcome ⌝ }
 {
     match outcome {
-        StepOutcome::Refused(_) => put_three(result, 0, 0, 0),
-        StepOutcome::Idle => put_three(result, 0, 0, 0),
-        StepOutcome::Served(notify) => {
-            if notify {
-                put_three(result, 1, 1, 0);
-            } else {
-                put_three(result, 1, 0, 0);
-            }
-        }
+        StepOutcome::Refused(n) => say(n as u64, 0, 0, 0),
+        StepOutcome::Idle => say(0, 0, 0, 0),
+        StepOutcome::Served(notify) => say(0, 1, flag(notify), 0),
     }
 }
 
@@ -101,51 +102,28 @@ pub extern "C" fn wt_step(
     memory: &mut [u8],
     result: &mut [u64],
 ) -> u64
-    ensures { λ r. ⌜ (r ≡ stepCall (now (view .entry)) (now (device .entry)) (now (queue .entry)) (now (memory .entry)) (now (result .entry)) .number)
-        × (now (device .exit) ≡ stepCall (now (view .entry)) (now (device .entry)) (now (queue .entry)) (now (memory .entry)) (now (result .entry)) .device)
-        × (now (queue .exit) ≡ stepCall (now (view .entry)) (now (device .entry)) (now (queue .entry)) (now (memory .entry)) (now (result .entry)) .queue)
-        × (now (memory .exit) ≡ stepCall (now (view .entry)) (now (device .entry)) (now (queue .entry)) (now (memory .entry)) (now (result .entry)) .memory)
-        × (now (result .exit) ≡ stepCall (now (view .entry)) (now (device .entry)) (now (queue .entry)) (now (memory .entry)) (now (result .entry)) .result) ⌝ }
+    ensures { λ r. ⌜ Leaves (stepCall (now (view .entry)) (now (device .entry)) (now (queue .entry)) (now (memory .entry))
+        (now (result .entry))) r (now (device .exit)) (now (queue .exit)) (now (memory .exit)) (now (result .exit)) ⌝ }
 {
     if records_fit(view, device, queue, result) {
-        let d = device_of(device);
-        let q = queue_of(queue);
-        let s = step::step(view, d, q, memory);
-        let next_device = s.device;
-        let next_queue = s.queue;
-        let outcome = s.outcome;
-        put_device(device, next_device);
-        put_queue(queue, next_queue);
-        put_outcome(result, outcome);
-        return step::number_of(outcome);
+        let moved = step_in_place(view, device, queue_of(queue), memory);
+        let next = moved.queue;
+        let outcome = moved.outcome;
+        put_queue(queue, next);
+        return tell(result, say_step(outcome));
     }
     27
 }
 
-fn end_number(end: RunEnd) -> u64
-    ensures { λ r. ⌜ r ≡ endNumber end ⌝ }
+fn say_run(served: u64, notified: bool, end: RunEnd) -> Said
+    ensures { λ r. ⌜ toldBy r ≡ endTold served notified end ⌝ }
 {
+    let notify = flag(notified);
     match end {
-        RunEnd::AllDone => 0,
-        RunEnd::Idle => 0,
-        RunEnd::Refused(n) => n as u64,
+        RunEnd::AllDone => say(0, served, notify, 0),
+        RunEnd::Idle => say(0, served, notify, 1),
+        RunEnd::Refused(n) => say(n as u64, served, notify, 0),
     }
-}
-
-fn is_idle(end: RunEnd) -> u64
-    ensures { λ r. ⌜ r ≡ isIdle end ⌝ }
-{
-    match end {
-        RunEnd::AllDone => 0,
-        RunEnd::Idle => 1,
-        RunEnd::Refused(_) => 0,
-    }
-}
-
-fn flag(b: bool) -> u64
-    ensures { λ r. ⌜ r ≡ cond b 1 0 ⌝ }
-{
-    if b { 1 } else { 0 }
 }
 
 #[no_mangle]
@@ -157,25 +135,15 @@ pub extern "C" fn wt_run(
     k: u64,
     result: &mut [u64],
 ) -> u64
-    ensures { λ r. ⌜ (r ≡ runCall (now (view .entry)) (now (device .entry)) (now (queue .entry)) (now (memory .entry)) k (now (result .entry)) .number)
-        × (now (device .exit) ≡ runCall (now (view .entry)) (now (device .entry)) (now (queue .entry)) (now (memory .entry)) k (now (result .entry)) .device)
-        × (now (queue .exit) ≡ runCall (now (view .entry)) (now (device .entry)) (now (queue .entry)) (now (memory .entry)) k (now (result .entry)) .queue)
-        × (now (memory .exit) ≡ runCall (now (view .entry)) (now (device .entry)) (now (queue .entry)) (now (memory .entry)) k (now (result .entry)) .memory)
-        × (now (result .exit) ≡ runCall (now (view .entry)) (now (device .entry)) (now (queue .entry)) (now (memory .entry)) k (now (result .entry)) .result) ⌝ }
+    ensures { λ r. ⌜ Leaves (runCall (now (view .entry)) (now (device .entry)) (now (queue .entry)) (now (memory .entry)) k
+        (now (result .entry))) r (now (device .exit)) (now (queue .exit)) (now (memory .exit)) (now (result .exit)) ⌝ }
 {
     if records_fit(view, device, queue, result) {
-        let d = device_of(device);
-        let q = queue_of(queue);
-        let s = run_steps(view, d, q, memory, k);
-        let next_device = s.device;
-        let next_queue = s.queue;
-        let end = s.end;
-        let notified = flag(s.notified);
-        let idle = is_idle(end);
-        put_device(device, next_device);
-        put_queue(queue, next_queue);
-        put_three(result, s.served, notified, idle);
-        return end_number(end);
+        let ran = run_steps(view, device, queue_of(queue), memory, k);
+        let next = ran.queue;
+        let end = ran.end;
+        put_queue(queue, next);
+        return tell(result, say_run(ran.served, ran.notified, end));
     }
     27
 }

@@ -1,24 +1,23 @@
-// Routing of accesses.
+// Routing of accesses, and what a view gives an address.
 ghost use mathlib.Core.Path.{_≡_};
-ghost use mathlib.Core.Bool.{true, _||_};
-ghost use lib.Dec.{eqb};
-ghost use Rattle.wicktumble.specs.Words.{isDevice};
-ghost use lib.ListN.{length};
-ghost use Rattle.wicktumble.specs.Routes.{routeWords, routeBy, routeCall, routeAllCall};
-use crate::words::device_of;
-use crate::words::put_three;
-use region_map::map::GuestAddress;
+ghost use Rattle.wicktumble.specs.Result.{Tells, toldBy};
+ghost use Rattle.wicktumble.specs.Routes.{routeTold, routeBy, routeCall, RoutesAll, routeAllCall, lookUpTold, lookUpCall};
+use crate::result::Said;
+use crate::result::say;
+use crate::result::tell;
+use map_records::map::GuestAddress;
 use virtqueue::route;
 use virtqueue::route::RouteAnswer;
+use virtqueue::view::LookUp;
+use virtqueue::view::look_up;
 
-fn put_route(result: &mut [u64], answer: RouteAnswer)
-    requires { ⌜ length (now result) ≡ 3 ⌝ }
-    ensures { λ _. ⌜ now (result .exit) ≡ routeWords answer ⌝ }
+fn say_route(answer: RouteAnswer) -> Said
+    ensures { λ r. ⌜ toldBy r ≡ routeTold answer ⌝ }
 {
     match answer {
-        RouteAnswer::Refused(_) => put_three(result, 0, 0, 0),
-        RouteAnswer::Memory(place) => put_three(result, 1, place, 0),
-        RouteAnswer::Port(port, offset) => put_three(result, 2, port, offset.0),
+        RouteAnswer::Refused(n) => say(n as u64, 0, 0, 0),
+        RouteAnswer::Memory(place) => say(0, 1, place, 0),
+        RouteAnswer::Port(port, offset) => say(0, 2, port, offset.0),
     }
 }
 
@@ -30,15 +29,13 @@ fn route_by(
     address: u64,
     width: u64,
 ) -> RouteAnswer
-    requires { ⌜ length (now view) ≡ 1537 ⌝ }
-    requires { ⌜ (eqb (length (now device)) 0 || isDevice (now device)) ≡ true ⌝ }
     ensures { λ r. ⌜ r ≡ routeBy (now (view .entry)) «memory_length» (now (device .entry)) address width ⌝ }
 {
+    let a = GuestAddress(address);
     if device.len() == 0 {
-        return route::route_without_device(view, memory_length, GuestAddress(address), width);
+        return route::route_without_device(view, memory_length, a, width);
     }
-    let d = device_of(device);
-    route::route(view, memory_length, d, GuestAddress(address), width)
+    route::route(view, memory_length, device, a, width)
 }
 
 #[no_mangle]
@@ -50,14 +47,13 @@ pub extern "C" fn wt_route(
     width: u64,
     result: &mut [u64],
 ) -> u64
-    ensures { λ r. ⌜ (r ≡ routeCall (now (view .entry)) «memory_length» (now (device .entry)) address width (now (result .entry)) .number)
-        × (now (result .exit) ≡ routeCall (now (view .entry)) «memory_length» (now (device .entry)) address width (now (result .entry)) .result) ⌝ }
+    ensures { λ r. ⌜ Tells (routeCall (now (view .entry)) «memory_length» (now (device .entry)) address width (now (result .entry)))
+        r (now (result .exit)) ⌝ }
 {
     let known = (device.len() == 0) | (device.len() == 37);
     if (view.len() == 1537) & (known & (result.len() == 3)) {
         let answer = route_by(view, memory_length, device, address, width);
-        put_route(result, answer);
-        return route::number_of(answer);
+        return tell(result, say_route(answer));
     }
     27
 }
@@ -70,15 +66,37 @@ pub extern "C" fn wt_route_all(
     accesses: &[u64],
     answers: &mut [u64],
 ) -> u64
-    ensures { λ r. ⌜ (r ≡ routeAllCall (now (view .entry)) «memory_length» (now (device .entry)) (now (accesses .entry)) (now (answers .entry)) .number)
-        × (now (answers .exit) ≡ routeAllCall (now (view .entry)) «memory_length» (now (device .entry)) (now (accesses .entry)) (now (answers .entry)) .answers) ⌝ }
+    ensures { λ r. ⌜ RoutesAll (routeAllCall (now (view .entry)) «memory_length» (now (device .entry)) (now (accesses .entry)) (now (answers .entry)))
+        r (now (answers .exit)) ⌝ }
 {
     if device.len() == 0 {
         return route::route_all_without_device(view, memory_length, accesses, answers);
     }
-    if device.len() == 37 {
-        let d = device_of(device);
-        return route::route_all(view, memory_length, d, accesses, answers);
+    route::route_all(view, memory_length, device, accesses, answers)
+}
+
+fn say_look_up(found: LookUp) -> Said
+    ensures { λ r. ⌜ toldBy r ≡ lookUpTold found ⌝ }
+{
+    match found {
+        LookUp::At(region, offset) => say(0, 1, region as u64, offset.0),
+        LookUp::Nothing => say(0, 0, 0, 0),
+        LookUp::Record => say(27, 0, 0, 0),
+    }
+}
+
+#[no_mangle]
+pub extern "C" fn wt_look_up(
+    view: &[u64],
+    memory_length: u64,
+    address: u64,
+    result: &mut [u64],
+) -> u64
+    ensures { λ r. ⌜ Tells (lookUpCall (now (view .entry)) «memory_length» address (now (result .entry))) r (now (result .exit)) ⌝ }
+{
+    if (view.len() == 1537) & (result.len() == 3) {
+        let found = look_up(view, memory_length, GuestAddress(address));
+        return tell(result, say_look_up(found));
     }
     27
 }

@@ -5,10 +5,13 @@ use Rattle.flatten.proofs.print_view.Statement.{statement}
 use Rattle.flatten.proofs.print_view.Tie as tie
 
 abbrev Inv-loop : tie.InvT-loop
-Inv-loop view k₀ k = k ≤ 256
+Inv-loop view count k₀ k = k ≤ 256
 
 abbrev μ-loop : tie.MeasureT-loop
-μ-loop view k₀ k = 256 - k
+μ-loop view count k₀ k = 256 - k
+
+count-of-requires : tie.Need-count-of-requires Inv-loop μ-loop
+count-of-requires c κs = search needs
 
 loop-holds : tie.Need-loop-holds Inv-loop μ-loop
 loop-holds c = search needs
@@ -16,11 +19,8 @@ loop-holds c = search needs
 returns : tie.Need-returns Inv-loop μ-loop
 returns c = search needs
 
-mul-range : tie.Need-mul-range Inv-loop μ-loop
-mul-range c = search needs
-
-element-copy-out-range : tie.Need-element-copy-out-range Inv-loop μ-loop
-element-copy-out-range c = search needs
+range-at-requires : tie.Need-range-at-requires Inv-loop μ-loop
+range-at-requires c κs = search needs
 
 range-line-requires : tie.Need-range-line-requires Inv-loop μ-loop
 range-line-requires c κs = search needs
@@ -46,10 +46,10 @@ print-view-spec =
     (tie.spec
     Inv-loop
     μ-loop
+    count-of-requires
     loop-holds
     returns
-    mul-range
-    element-copy-out-range
+    range-at-requires
     range-line-requires
     print-line-requires
     add-k

@@ -1,43 +1,73 @@
 -- `drawing::cell::cell` meets its contract. Assumes nothing.
-use mathlib.Core.Path.{_∙_, ap}
-use Rattle.drawing.specs.Drawing.{answerCell}
-use Rattle.drawing.proofs.DrawLaws.{column-small, region-at}
-use Rattle.region_map.specs.Walk.{walkRoot}
+use mathlib.Core.Path.{_≡_, _∙_, ap}
 use native.Mathlib.Omega.{arith}
-use Prim.Native.Nat.{ℕ, _<_}
+use Prim.Native.Nat.{ℕ, _+_, _-_, _<_}
+use Rattle.map_records.specs.Map.{region}
+use Rattle.map_records.specs.Words.{mapOf}
+use Rattle.map_records.specs.declared.map.Region.{Region}
+use Rattle.map_records.specs.declared.map.RegionMap.{RegionMap}
+use Rattle.region_map.specs.Flatten.{rootSize}
+use Rattle.region_map.specs.Walk.{walkRoot}
+use Rattle.drawing.specs.Drawing.{columnAddress, addressCell, answerCell}
+use Rattle.drawing.proofs.DrawLaws.{column-small, region-at}
 use borrow.Author.Needs.{needs}
 use Rattle.drawing.proofs.cell.cell.Statement.{statement}
 use Rattle.drawing.proofs.cell.cell.Tie as tie
 
-sub-root : tie.Need-sub-root
-sub-root c = search needs
+-- the map that the words stand for, and the root's size
+abbrev theMap : tie.After-region-at → RegionMap
+theMap c = mapOf (c .before .before .before .args .map .now)
 
-mul-size : tie.Need-mul-size
-mul-size c = search needs
+root : (c : tie.After-region-at) → c .region-at .result .size ≡ rootSize (theMap c)
+root c =
+    ap (λ (r : Region). r .size) (c .region-at .ensures)
+    ∙ ap (λ (n : ℕ). region (theMap c) (n - 1) .size) (c .before .region-count .ensures)
 
-element-copy-out-size : tie.Need-element-copy-out-size
-element-copy-out-size c = search needs
+-- the address of the column, and that of the next
+address : (c : tie.After-column-address) → c .column-address .result .0 ≡ columnAddress (rootSize (theMap (c .before))) (c .before .before .before .before .args .c)
+address c = c .column-address .ensures ∙ ap (λ (s : ℕ). columnAddress s (c .before .before .before .before .args .c)) (root (c .before))
+
+next : (c : tie.After-column-address2) → c .column-address2 .result .0 ≡ columnAddress (rootSize (theMap (c .before .before))) (c .before .before .before .before .before .args .c + 1)
+next c = c .column-address2 .ensures ∙ ap (λ (s : ℕ). columnAddress s (c .before .before .before .before .before .args .c + 1)) (root (c .before .before))
+
+region-count-requires : tie.Need-region-count-requires
+region-count-requires c κs = c .before .pre .0 .words
+
+sub-last : tie.Need-sub-last
+sub-last c = omega (arith, c .region-count .ensures, c .before .before .pre .0 .climbable .some)
+
+region-at-requires : tie.Need-region-at-requires
+region-at-requires c κs =
+    let p = c .before .before .pre .0 in
+    (p .words, omega (arith, c .region-count .ensures, p .climbable .some, p .climbable .count))
 
 column-address-requires : tie.Need-column-address-requires
-column-address-requires c κs = search needs
+column-address-requires c κs =
+    let p = c .before .before .before .pre in
+    (omega (arith, root c, p .0 .climbable .size), omega (arith, p .3))
 
 add-column-address : tie.Need-add-column-address
-add-column-address c = search needs
+add-column-address c = omega (arith, c .before .before .before .before .pre .3)
 
 column-address-requires-2 : tie.Need-column-address-requires-2
-column-address-requires-2 c κs = search needs
+column-address-requires-2 c κs =
+    let p = c .before .before .before .before .pre in
+    (omega (arith, root (c .before), p .0 .climbable .size), omega (arith, p .3))
 
 enum-told : tie.Need-enum-told
 enum-told c = search needs
 
 address-cell-requires : tie.Need-address-cell-requires
-address-cell-requires c κs = search needs
+address-cell-requires c κs =
+    let s = c .before .before .before .before in
+    let p = s .before .before .before .pre in
+    (omega (arith, root s, p .0 .climbable .size), p .3)
 
 enum-told-2 : tie.Need-enum-told-2
 enum-told-2 c = search needs
 
 ruler-cell-requires : tie.Need-ruler-cell-requires
-ruler-cell-requires c κs = search needs
+ruler-cell-requires c κs = tt
 
 enum-known-row : tie.Need-enum-known-row
 enum-known-row c = search needs
@@ -45,18 +75,20 @@ enum-known-row c = search needs
 region-cell-requires : tie.Need-region-cell-requires
 region-cell-requires c κs =
     let s = c .before .before .before .before in
-    let p = s .before .pre in
-    let h : c .before .row .given .0 .0 < s .before .args .t1 .count = rw (c .before .row .given .1) at (p .2) in
-    (p .0, h, omega (arith, s .column-address .ensures, column-small _ (s .before .args .c) (p .0 .size) (omega (arith, p .3))))
+    let p = s .before .before .before .before .pre in
+    let h : c .before .row .given .0 .0 < theMap (s .before) .count = rw (c .before .row .given .1) at (p .2) in
+    (p .0, h, omega (arith, address s, column-small _ (s .before .before .before .before .args .c) (p .0 .climbable .size) (omega (arith, p .3))))
 
 enum-told-3 : tie.Need-enum-told-3
 enum-told-3 c = search needs
 
 answer-cell-requires : tie.Need-answer-cell-requires
-answer-cell-requires c κs = search needs
+answer-cell-requires c κs = c .before .before .before .before .before .before .before .pre .1
 
 returns : tie.Need-returns
-returns c = rw (c .before .enum-told .given .1) (c .address-cell .ensures)
+returns c =
+    let s = c .before .before .before .before .before in
+    rw (c .before .enum-told .given .1) (c .address-cell .ensures ∙ ap (λ (x : ℕ). addressCell x (s .before .before .before .args .c)) (root s))
 
 returns-2 : tie.Need-returns-2
 returns-2 c = rw (c .before .enum-told2 .given .1) (c .ruler-cell .ensures)
@@ -64,20 +96,20 @@ returns-2 c = rw (c .before .enum-told2 .given .1) (c .ruler-cell .ensures)
 returns-3 : tie.Need-returns-3
 returns-3 c =
     let s = c .before .before .before .before in
-    rw (c .before .before .row .given .1) (region-at _ _ _ _ _ _ _ _ (c .region-cell .ensures) (s .before .column-address .ensures) (s .column-address2 .ensures))
+    rw (c .before .before .row .given .1) (region-at _ _ _ _ _ _ _ _ (c .region-cell .ensures) (address (s .before)) (next s))
 
 returns-4 : tie.Need-returns-4
 returns-4 c =
     let s = c .before .before .before .before in
-    rw (c .before .enum-told3 .given .1) (c .answer-cell .ensures ∙ ap (λ (x : ℕ). answerCell (walkRoot (s .before .args .t1) x)) (s .column-address .ensures))
+    rw (c .before .enum-told3 .given .1) (c .answer-cell .ensures ∙ ap (λ (x : ℕ). answerCell (walkRoot (theMap (s .before)) x)) (address s))
 
 pub cell-spec : {M : Type 1} → statement M
 cell-spec =
     tie.close
     (tie.spec
-    sub-root
-    mul-size
-    element-copy-out-size
+    region-count-requires
+    sub-last
+    region-at-requires
     column-address-requires
     add-column-address
     column-address-requires-2

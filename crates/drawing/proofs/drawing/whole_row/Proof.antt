@@ -3,12 +3,13 @@ use Prim.Native.Nat.{_≤_, _-_}
 use native.Mathlib.Omega.{arith}
 use Rattle.drawing.proofs.DrawLaws.{Filled, filled-none, filled-more, filled-whole}
 use Rattle.drawing.specs.Drawing.{character, rowText}
+use Rattle.map_records.specs.Words.{mapOf}
 use borrow.Author.Needs.{needs}
 use Rattle.drawing.proofs.drawing.whole_row.Statement.{statement}
 use Rattle.drawing.proofs.drawing.whole_row.Tie as tie
 
 abbrev Inv-loop : tie.InvT-loop
-Inv-loop map memory-length row text₀ k₀ text k = (k ≤ 79) × Filled (character map row) k text
+Inv-loop map memory-length row text₀ k₀ text k = (k ≤ 79) × Filled (character (mapOf map) row) k text
 
 abbrev μ-loop : tie.MeasureT-loop
 μ-loop map memory-length row text₀ k₀ text k = 79 - k

@@ -1,6 +1,7 @@
 -- `drawing::label::label` meets its contract. Assumes nothing.
 use native.Mathlib.Omega.{arith}
 use Prim.Native.Nat.{_<_}
+use Rattle.map_records.specs.Words.{mapOf}
 use borrow.Author.Needs.{needs}
 use Rattle.drawing.proofs.label.label.Statement.{statement}
 use Rattle.drawing.proofs.label.label.Tie as tie
@@ -22,9 +23,9 @@ enum-known-row c = search needs
 
 region-label-requires : tie.Need-region-label-requires
 region-label-requires c κs =
-    let s = c .before .before .before in
-    let h : c .before .row .given .0 .0 < s .args .map .count = rw (c .before .row .given .1) at (s .pre .1) in
-    omega (arith, s .pre .0)
+    let s = c .before .before .before .before in
+    let h : c .before .row .given .0 .0 < mapOf (s .args .map .now) .count = rw (c .before .row .given .1) at (s .pre .1) in
+    (s .pre .0 .words, omega (arith, h, s .pre .0 .climbable .count))
 
 enum-told-3 : tie.Need-enum-told-3
 enum-told-3 c = search needs

@@ -1,4 +1,5 @@
 -- `drawing::label::region_label` meets its contract. Assumes nothing.
+use mathlib.Core.Path.{sym}
 use Rattle.drawing.specs.Drawing.{regionLabel}
 use borrow.Author.Tests.{lt-ltb, le-ltb, eq-eqb, ne-eqb}
 use borrow.Author.Needs.{needs}
@@ -16,27 +17,17 @@ returns-2 : tie.Need-returns-2
 unfolding regionLabel
 returns-2 c = simp (ne-eqb _ _ (c .before .if1 .left), lt-ltb _ _ (c .if2 .taken))
 
-mul-kind : tie.Need-mul-kind
-mul-kind c = search needs
-
-element-copy-out-kind : tie.Need-element-copy-out-kind
-element-copy-out-kind c = search needs
+region-at-requires : tie.Need-region-at-requires
+region-at-requires c κs = search needs
 
 kind-letter-requires : tie.Need-kind-letter-requires
 kind-letter-requires c κs = search needs
 
 returns-3 : tie.Need-returns-3
 unfolding regionLabel
-returns-3 c = rw (ne-eqb _ _ (c .before .before .if1 .left), le-ltb _ _ (c .before .if2 .left)) (c .kind-letter .ensures)
+returns-3 c = rw (sym (c .before .region-at .ensures), ne-eqb _ _ (c .before .before .before .if1 .left), le-ltb _ _ (c .before .before .if2 .left)) (c .kind-letter .ensures)
 
 pub region-label-spec : {M : Type 1} → statement M
 region-label-spec =
     tie.close
-    (tie.spec
-    digit-requires
-    returns
-    returns-2
-    mul-kind
-    element-copy-out-kind
-    kind-letter-requires
-    returns-3)
+    (tie.spec digit-requires returns returns-2 region-at-requires kind-letter-requires returns-3)

@@ -6,18 +6,6 @@ use borrow.Author.Needs.{needs}
 use Rattle.drawing.proofs.position.enter.Statement.{statement}
 use Rattle.drawing.proofs.position.enter.Tie as tie
 
-mul-offset : tie.Need-mul-offset
-mul-offset c = search needs
-
-element-copy-out-offset : tie.Need-element-copy-out-offset
-element-copy-out-offset c = search needs
-
-mul-size : tie.Need-mul-size
-mul-size c = search needs
-
-element-copy-out-size : tie.Need-element-copy-out-size
-element-copy-out-size c = search needs
-
 past-requires : tie.Need-past-requires
 past-requires c κs = search needs
 
@@ -30,23 +18,13 @@ smaller-requires c κs = search needs
 returns : tie.Need-returns
 returns c =
     let s = c .before in
-    entered-inside _ _ _ _ _ _ (s .before .before .past .ensures) (s .smaller .ensures ∙ ap₂ min (s .before .past2 .ensures) refl) (c .if1 .taken)
+    entered-inside _ _ _ _ _ (s .before .before .past .ensures) (s .smaller .ensures ∙ ap₂ min (s .before .past2 .ensures) refl) (c .if1 .taken)
 
 returns-2 : tie.Need-returns-2
 returns-2 c =
     let s = c .before in
-    entered-not _ _ _ _ _ _ (s .before .before .past .ensures) (s .smaller .ensures ∙ ap₂ min (s .before .past2 .ensures) refl) (c .if1 .left)
+    entered-not _ _ _ _ _ (s .before .before .past .ensures) (s .smaller .ensures ∙ ap₂ min (s .before .past2 .ensures) refl) (c .if1 .left)
 
 pub enter-spec : {M : Type 1} → statement M
 enter-spec =
-    tie.close
-    (tie.spec
-    mul-offset
-    element-copy-out-offset
-    mul-size
-    element-copy-out-size
-    past-requires
-    past-requires-2
-    smaller-requires
-    returns
-    returns-2)
+    tie.close (tie.spec past-requires past-requires-2 smaller-requires returns returns-2)

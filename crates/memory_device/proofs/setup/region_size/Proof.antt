@@ -1,43 +1,55 @@
 -- `memory_device::setup::region_size` meets its contract. Assumes nothing.
-use Rattle.memory_device.proofs.TableLaws.{same-end}
-use Rattle.memory_device.proofs.SetUpLaws.{managed-here, managed-not}
-use Rattle.memory_device.specs.SetUp.{managedIn}
-use Prim.Native.Nat.{_-_, _≤_}
-use native.Mathlib.Omega.{arith}
 use mathlib.Core.Logic.{⊎-elim}
 use mathlib.Core.Path.{_≡_, refl, sym, ap, _∙_}
-use borrow.Author.Needs.{needs}
+use Prim.Native.Nat.{_-_, _≤_}
+use native.Mathlib.Omega.{arith}
+use Rattle.map_records.specs.Words.{mapOf}
+use Rattle.map_records.specs.declared.map.Region.{Region}
+use Rattle.memory_device.specs.SetUp.{managedIn}
+use Rattle.memory_device.proofs.SetUpLaws.{managed-here, managed-not}
 use Rattle.memory_device.proofs.setup.region_size.Statement.{statement}
 use Rattle.memory_device.proofs.setup.region_size.Tie as tie
+use Rattle.map_records.proofs.words.region_at.Reads as region-at-reads
+use Rattle.map_records.proofs.words.region_count.Reads as region-count-reads
 
 abbrev Inv-loop : tie.InvT-loop
-Inv-loop map count size₀ n₀ size n = (n ≤ count) × (size ≡ managedIn map n)
+Inv-loop map count size₀ n₀ size n = (n ≤ count) × (size ≡ managedIn (mapOf map) n)
 
 abbrev μ-loop : tie.MeasureT-loop
 μ-loop map count size₀ n₀ size n = count - n
+
+region-count-requires : tie.Need-region-count-requires Inv-loop μ-loop
+region-count-requires c κs = c .before .pre .words
 
 loop-holds : tie.Need-loop-holds Inv-loop μ-loop
 unfolding managedIn
 loop-holds c = (omega arith, refl)
 
-mul-region : tie.Need-mul-region Inv-loop μ-loop
-mul-region c = search needs
-
-element-copy-out-region : tie.Need-element-copy-out-region Inv-loop μ-loop
-element-copy-out-region c = search needs
+region-at-requires : tie.Need-region-at-requires Inv-loop μ-loop
+region-at-requires c κs = (c .before .before .before .before .pre .words, omega (arith, c .loop-test .taken, c .before .before .region-count .ensures, c .before .before .before .before .pre .few))
 
 add-n : tie.Need-add-n Inv-loop μ-loop
-add-n c = search needs
+add-n c = omega (arith, c .before .before .before .loop-test .taken, c .before .before .before .before .before .region-count .ensures, c .before .before .before .before .before .before .before .pre .few)
 
 loop-less : tie.Need-loop-less Inv-loop μ-loop
-loop-less c = search needs
+loop-less c = omega (arith, c .before .before .before .loop-test .taken)
 
 loop-again : tie.Need-loop-again Inv-loop μ-loop
-loop-again c = let m = c .before .before .before .before .before .args .t1 in
-    (omega (arith, c .before .before .before .loop-test .taken), ⊎-elim (λ w. w .1 ∙ sym (managed-here m _ (w .0 .taken))) (λ w. w .1 ∙ c .before .before .before .before .loop .inv .1 ∙ sym (managed-not m _ (w .0 .left))) (c .if1 .came))
+loop-again c =
+    let m = mapOf (c .before .before .before .before .before .before .before .args .map .now) in
+    let r = c .before .before .region-at .ensures in
+    let same = ap (λ (x : Region). x .kind) r in (
+      omega (arith, c .before .before .before .loop-test .taken),
+      ⊎-elim
+          (λ w. w .1 ∙ ap (λ (x : Region). x .size) r ∙ sym (managed-here m (c .before .before .before .before .loop .n) (sym same ∙ w .0 .taken)))
+          (λ w. w .1 ∙ c .before .before .before .before .loop .inv .1 ∙ sym (managed-not m (c .before .before .before .before .loop .n) (λ e. w .0 .left (same ∙ e))))
+          (c .if1 .came),
+    )
 
 returns : tie.Need-returns Inv-loop μ-loop
-returns c = c .before .loop .inv .1 ∙ ap (managedIn (c .before .before .args .t1)) (same-end (c .before .loop .inv .0) (c .loop-test .left))
+returns c =
+    let e : c .before .loop .n ≡ mapOf (c .before .before .before .before .args .map .now) .count = omega (arith, c .before .loop .inv .0, c .loop-test .left, c .before .before .region-count .ensures) in
+    c .before .loop .inv .1 ∙ ap (managedIn (mapOf (c .before .before .before .before .args .map .now))) e
 
 pub region-size-spec : {M : Type 1} → statement M
 region-size-spec =
@@ -45,9 +57,9 @@ region-size-spec =
     (tie.spec
     Inv-loop
     μ-loop
+    region-count-requires
     loop-holds
-    mul-region
-    element-copy-out-region
+    region-at-requires
     add-n
     loop-less
     loop-again

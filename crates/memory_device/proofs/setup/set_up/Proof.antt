@@ -1,21 +1,29 @@
 -- `memory_device::setup::set_up` meets its contract. Assumes nothing.
 use Rattle.memory_device.proofs.SetUpLaws.{set-up-done, set-up-values, set-up-refused}
 use Rattle.memory_device.specs.SetUp.{regionSize}
-use Rattle.memory_device.specs.Device.{setupOk}
+use Rattle.device_words.specs.Device.{setupOk}
 use Rattle.region_map.proofs.Accepted.{is-accepted, passed-reply, accepted-sound}
+use Rattle.map_records.specs.Words.{mapOf}
+use Rattle.region_map.proofs.MapWords.{accepted-words}
 use Rattle.region_map.specs.Check.{reply, Accepted}
 use mathlib.Core.Path.{_≡_, refl, sym, ap, _∙_}
+use Rattle.region_map.specs.Reply.{Reply, plain}
+use Rattle.device_words.specs.Device.{MemoryDevice}
+use Rattle.memory_device.specs.Record.{Outcome}
 use borrow.Author.Needs.{needs}
 use Rattle.memory_device.proofs.setup.set_up.Statement.{statement}
 use Rattle.memory_device.proofs.setup.set_up.Tie as tie
 
-ok : (c : tie.Then1) → Accepted (c .before .before .before .args .map) (c .before .before .before .args .memory-length)
+abbrev with-device : Reply → MemoryDevice → Outcome
+with-device r d = record { reply = r; device = d }
+
+ok : (c : tie.Then1) → Accepted (mapOf (c .before .before .before .before .args .map .now)) (c .before .before .before .before .args .memory-length)
 ok c = is-accepted _ _ _ (c .before .before .check-map .ensures) (sym (c .before .accepts .ensures) ∙ c .if1 .taken)
 
 -- what the rules say of the map's region
-ruled : (c : tie.After-setup-ok) → let a = c .before .before .before .before .before .args in
-    c .setup-ok .result ≡ setupOk (a .values .«block_size») (a .values .addr) (regionSize (a .map)) (a .values .«usable_size») (a .values .«requested_size»)
-ruled c = rw (← c .before .region-size .ensures) (c .setup-ok .ensures)
+ruled : (c : tie.After-setup-ok) → let a = c .before .before .before .before .before .before .before .args in
+    c .setup-ok .result ≡ setupOk (a .values .«block_size») (a .values .addr .0) (regionSize (mapOf (a .map .now))) (a .values .«usable_size») (a .values .«requested_size»)
+ruled c = rw (← c .before .before .region-size .ensures) (c .setup-ok .ensures)
 
 check-map-requires : tie.Need-check-map-requires
 check-map-requires c κs = search needs
@@ -24,27 +32,27 @@ accepts-requires : tie.Need-accepts-requires
 accepts-requires c κs = search needs
 
 region-size-requires : tie.Need-region-size-requires
-region-size-requires c κs = accepted-sound _ _ (ok c) .count
+region-size-requires c κs = record { words = accepted-words _ _ (ok c); few = accepted-sound _ _ (ok c) .count }
 
 setup-ok-requires : tie.Need-setup-ok-requires
 setup-ok-requires c κs = search needs
 
 returns : tie.Need-returns
-returns c = let t = c .before .before .before in
+returns c = let t = c .before .before .before .before in
     let passed = passed-reply (reply (t .before .before .check-map .result)) (sym (t .before .accepts .ensures) ∙ t .if1 .taken) in
-    rw (passed, c .before .before .region-size .ensures) (set-up-done _ _ _ (ok t) (sym (ruled (c .before)) ∙ c .if2 .taken))
+    rw (passed, c .before .before .before .region-size .ensures) (set-up-done _ _ _ (ok t) (sym (ruled (c .before)) ∙ c .if2 .taken))
 
 no-device-requires : tie.Need-no-device-requires
 no-device-requires c κs = search needs
 
 returns-2 : tie.Need-returns-2
-returns-2 c = rw (c .no-device .ensures) (set-up-values _ _ _ (ok (c .before .before .before .before)) (sym (ruled (c .before .before)) ∙ c .before .if2 .left))
+returns-2 c = ap (with-device (plain 13)) (c .no-device .ensures) ∙ set-up-values _ _ _ (ok (c .before .before .before .before .before)) (sym (ruled (c .before .before)) ∙ c .before .if2 .left)
 
 no-device-requires-2 : tie.Need-no-device-requires-2
 no-device-requires-2 c κs = search needs
 
 returns-3 : tie.Need-returns-3
-returns-3 c = rw (c .no-device2 .ensures) (set-up-refused _ _ _ _ (c .before .before .before .check-map .ensures) (sym (c .before .before .accepts .ensures) ∙ c .before .if1 .left))
+returns-3 c = ap (with-device (reply (c .before .before .before .check-map .result))) (c .no-device2 .ensures) ∙ set-up-refused _ _ _ _ (c .before .before .before .check-map .ensures) (sym (c .before .before .accepts .ensures) ∙ c .before .if1 .left)
 
 pub set-up-spec : {M : Type 1} → statement M
 set-up-spec =

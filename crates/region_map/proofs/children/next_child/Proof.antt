@@ -5,11 +5,11 @@ use mathlib.Core.Bool.{Bool, true, false}
 use mathlib.Core.Logic.{_⊎_, inl, inr, ⊎-elim}
 use Prim.Native.Nat.{ℕ, _+_, _-_, _%_, _≤_, _<_}
 use native.Mathlib.Omega.{arith}
-use Rattle.region_map.specs.declared.map.Region.{Region}
-use Rattle.region_map.specs.declared.map.RegionMap.{RegionMap}
-use Rattle.region_map.specs.Map.{region}
+use Rattle.map_records.specs.declared.map.Region.{Region}
+use Rattle.map_records.specs.declared.map.RegionMap.{RegionMap}
+use Rattle.map_records.specs.Map.{region}
 use Rattle.region_map.specs.Walk.{rank, ranked}
-use Rattle.region_map.specs.Words.{treeOf}
+use Rattle.map_records.specs.Words.{mapOf}
 use Rattle.region_map.proofs.WalkLaws.{looked, is-ranked, child-below}
 use Rattle.region_map.proofs.children.next_child.Statement.{statement}
 use Rattle.region_map.proofs.children.next_child.Tie as tie
@@ -35,7 +35,7 @@ only true f = f refl
 only false f = refl
 
 abbrev Inv-loop : tie.InvT-loop
-Inv-loop map n below best₀ c₀ best c = Looked (treeOf map) n below best c
+Inv-loop map n below best₀ c₀ best c = Looked (mapOf map) n below best c
 
 abbrev μ-loop : tie.MeasureT-loop
 μ-loop map n below best₀ c₀ best c = n - c
@@ -75,7 +75,7 @@ loop-again : tie.Need-loop-again Inv-loop μ-loop
 loop-again c =
     let s = c .before .before .before .before .before .before in
     let a = s .args in
-    let m = treeOf (a .map .now) in
+    let m = mapOf (a .map .now) in
     let l = c .before .before .before .before .loop in
     let lt = c .before .before .before .loop-test .taken in
     let parent = ap (λ (r : Region). r .parent) (c .before .before .region-at .ensures) in
@@ -92,7 +92,7 @@ returns : tie.Need-returns Inv-loop μ-loop
 returns c =
     let l = c .before .loop in
     let a = c .before .before .before .args in
-    let m = treeOf (a .map .now) in
+    let m = mapOf (a .map .now) in
     record {
       within = l .inv .1;
       found = l .inv .2;

@@ -3,11 +3,11 @@ use borrow.Author.Needs.{needs}
 use mathlib.Core.Path.{ap, _∙_}
 use Prim.Native.Nat.{ℕ, _+_, _*_}
 use native.Mathlib.Omega.{arith}
-use Rattle.region_map.specs.declared.map.Region.{Region}
+use Rattle.map_records.specs.declared.map.Region.{Region}
 use Rattle.region_map.specs.Clash.{priorityOf}
-use Rattle.region_map.specs.Map.{region}
+use Rattle.map_records.specs.Map.{region}
 use Rattle.region_map.specs.Walk.{rank}
-use Rattle.region_map.specs.Words.{treeOf}
+use Rattle.map_records.specs.Words.{mapOf}
 use Rattle.region_map.proofs.WalkLaws.{priority-le}
 use Rattle.region_map.proofs.children.rank.Statement.{statement}
 use Rattle.region_map.proofs.children.rank.Tie as tie
@@ -21,13 +21,13 @@ priority-of-requires c κs = search needs
 mul-result : tie.Need-mul-result
 mul-result c =
     let s = c .before .before .before in
-    let m = treeOf (s .args .map .now) in
+    let m = mapOf (s .args .map .now) in
     omega (arith, c .priority-of .ensures, ap (λ (r : Region). priorityOf r) (c .before .region-at .ensures), priority-le (region m (s .args .c)) (s .pre .0 .walkable .priorities (s .args .c) (s .pre .1)))
 
 add-result : tie.Need-add-result
 add-result c =
     let s = c .before .before .before in
-    let m = treeOf (s .args .map .now) in
+    let m = mapOf (s .args .map .now) in
     omega (arith, c .priority-of .ensures, ap (λ (r : Region). priorityOf r) (c .before .region-at .ensures), priority-le (region m (s .args .c)) (s .pre .0 .walkable .priorities (s .args .c) (s .pre .1)), s .pre .0 .walkable .count, s .pre .1)
 
 returns : tie.Need-returns

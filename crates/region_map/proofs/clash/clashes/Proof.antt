@@ -2,18 +2,17 @@
 use borrow.Author.Needs.{needs}
 use Rattle.region_map.proofs.clash.clashes.Statement.{statement}
 use Rattle.region_map.proofs.clash.clashes.Tie as tie
+use Rattle.map_records.proofs.words.region_at.Reads as region-at-reads
+use Rattle.region_map.proofs.clash.managed_clash.Reads as managed-clash-reads
+use Rattle.region_map.proofs.clash.memory_clash.Reads as memory-clash-reads
+use Rattle.region_map.proofs.clash.port_clash.Reads as port-clash-reads
+use Rattle.region_map.proofs.clash.sibling_clash.Reads as sibling-clash-reads
 
-mul-a : tie.Need-mul-a
-mul-a c = search needs
+region-at-requires : tie.Need-region-at-requires
+region-at-requires c κs = search needs
 
-element-copy-out-a : tie.Need-element-copy-out-a
-element-copy-out-a c = search needs
-
-mul-b : tie.Need-mul-b
-mul-b c = search needs
-
-element-copy-out-b : tie.Need-element-copy-out-b
-element-copy-out-b c = search needs
+region-at-requires-2 : tie.Need-region-at-requires-2
+region-at-requires-2 c κs = search needs
 
 enum-told : tie.Need-enum-told
 enum-told c = search needs
@@ -40,13 +39,13 @@ sibling-clash-requires : tie.Need-sibling-clash-requires
 sibling-clash-requires c κs = search needs
 
 returns : tie.Need-returns
-returns c = rw (c .before .enum-told .given .1) (c .memory-clash .ensures)
+returns c = rw (c .before .enum-told .given .1, ← c .before .before .before .before .region-at .ensures, ← c .before .before .before .region-at2 .ensures) (c .memory-clash .ensures)
 
 returns-2 : tie.Need-returns-2
-returns-2 c = rw (c .before .enum-told2 .given .1) (c .managed-clash .ensures)
+returns-2 c = rw (c .before .enum-told2 .given .1, ← c .before .before .before .before .region-at .ensures, ← c .before .before .before .region-at2 .ensures) (c .managed-clash .ensures)
 
 returns-3 : tie.Need-returns-3
-returns-3 c = rw (c .before .enum-told3 .given .1) (c .port-clash .ensures)
+returns-3 c = rw (c .before .enum-told3 .given .1, ← c .before .before .before .before .region-at .ensures, ← c .before .before .before .region-at2 .ensures) (c .port-clash .ensures)
 
 returns-4 : tie.Need-returns-4
 returns-4 c = rw (c .before .enum-told4 .given .1) (c .sibling-clash .ensures)
@@ -55,10 +54,8 @@ pub clashes-spec : {M : Type 1} → statement M
 clashes-spec =
     tie.close
     (tie.spec
-    mul-a
-    element-copy-out-a
-    mul-b
-    element-copy-out-b
+    region-at-requires
+    region-at-requires-2
     enum-told
     memory-clash-requires
     enum-told-2

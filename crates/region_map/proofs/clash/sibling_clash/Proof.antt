@@ -3,18 +3,16 @@ use Rattle.region_map.specs.Clash.{siblingClash}
 use borrow.Author.Needs.{needs}
 use Rattle.region_map.proofs.clash.sibling_clash.Statement.{statement}
 use Rattle.region_map.proofs.clash.sibling_clash.Tie as tie
+use Rattle.map_records.proofs.words.region_at.Reads as region-at-reads
+use Rattle.region_map.proofs.clash.priority_of.Reads as priority-of-reads
+use Rattle.region_map.proofs.clash.share.Reads as share-reads
+use Rattle.region_map.proofs.clash.siblings.Reads as siblings-reads
 
-mul-a : tie.Need-mul-a
-mul-a c = search needs
+region-at-requires : tie.Need-region-at-requires
+region-at-requires c κs = search needs
 
-element-copy-out-a : tie.Need-element-copy-out-a
-element-copy-out-a c = search needs
-
-mul-b : tie.Need-mul-b
-mul-b c = search needs
-
-element-copy-out-b : tie.Need-element-copy-out-b
-element-copy-out-b c = search needs
+region-at-requires-2 : tie.Need-region-at-requires-2
+region-at-requires-2 c κs = search needs
 
 siblings-requires : tie.Need-siblings-requires
 siblings-requires c κs = search needs
@@ -36,10 +34,8 @@ pub sibling-clash-spec : {M : Type 1} → statement M
 sibling-clash-spec =
     tie.close
     (tie.spec
-    mul-a
-    element-copy-out-a
-    mul-b
-    element-copy-out-b
+    region-at-requires
+    region-at-requires-2
     siblings-requires
     priority-of-requires
     priority-of-requires-2

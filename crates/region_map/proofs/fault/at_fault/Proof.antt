@@ -2,12 +2,13 @@
 use borrow.Author.Needs.{needs}
 use Rattle.region_map.proofs.fault.at_fault.Statement.{statement}
 use Rattle.region_map.proofs.fault.at_fault.Tie as tie
+use Rattle.map_records.proofs.words.region_at.Reads as region-at-reads
+use Rattle.region_map.proofs.fault.field_fault.Reads as field-fault-reads
+use Rattle.region_map.proofs.fault.link_fault.Reads as link-fault-reads
+use Rattle.region_map.proofs.fault.memory_fault.Reads as memory-fault-reads
 
-mul-r : tie.Need-mul-r
-mul-r c = search needs
-
-element-copy-out-r : tie.Need-element-copy-out-r
-element-copy-out-r c = search needs
+region-at-requires : tie.Need-region-at-requires
+region-at-requires c κs = search needs
 
 enum-told : tie.Need-enum-told
 enum-told c = search needs
@@ -31,23 +32,22 @@ memory-fault-requires : tie.Need-memory-fault-requires
 memory-fault-requires c κs = search needs
 
 returns : tie.Need-returns
-returns c = rw (c .before .enum-told .given .1)
+returns c = rw (c .before .enum-told .given .1, ← c .before .before .before .region-at .ensures)
 
 returns-2 : tie.Need-returns-2
-returns-2 c = rw (c .before .enum-told2 .given .1) (c .field-fault .ensures)
+returns-2 c = rw (c .before .enum-told2 .given .1, ← c .before .before .before .region-at .ensures) (c .field-fault .ensures)
 
 returns-3 : tie.Need-returns-3
 returns-3 c = rw (c .before .enum-told3 .given .1) (c .link-fault .ensures)
 
 returns-4 : tie.Need-returns-4
-returns-4 c = rw (c .before .enum-told4 .given .1) (c .memory-fault .ensures)
+returns-4 c = rw (c .before .enum-told4 .given .1, ← c .before .before .before .region-at .ensures) (c .memory-fault .ensures)
 
 pub at-fault-spec : {M : Type 1} → statement M
 at-fault-spec =
     tie.close
     (tie.spec
-    mul-r
-    element-copy-out-r
+    region-at-requires
     enum-told
     enum-told-2
     field-fault-requires

@@ -3,12 +3,17 @@ use Rattle.region_map.specs.Fault.{linkFault}
 use borrow.Author.Needs.{needs}
 use Rattle.region_map.proofs.fault.link_fault.Statement.{statement}
 use Rattle.region_map.proofs.fault.link_fault.Tie as tie
+use Rattle.map_records.proofs.words.region_at.Reads as region-at-reads
+use Rattle.map_records.proofs.words.region_count.Reads as region-count-reads
+use Rattle.region_map.proofs.fault.parent_fault.Reads as parent-fault-reads
+use Rattle.region_map.proofs.fault.root_fault.Reads as root-fault-reads
+use Rattle.region_map.proofs.fault.target_fault.Reads as target-fault-reads
 
-mul-r : tie.Need-mul-r
-mul-r c = search needs
+region-at-requires : tie.Need-region-at-requires
+region-at-requires c κs = search needs
 
-element-copy-out-r : tie.Need-element-copy-out-r
-element-copy-out-r c = search needs
+region-count-requires : tie.Need-region-count-requires
+region-count-requires c κs = search needs
 
 add-last : tie.Need-add-last
 add-last c = search needs
@@ -30,8 +35,8 @@ pub link-fault-spec : {M : Type 1} → statement M
 link-fault-spec =
     tie.close
     (tie.spec
-    mul-r
-    element-copy-out-r
+    region-at-requires
+    region-count-requires
     add-last
     parent-fault-requires
     target-fault-requires

@@ -1,51 +1,55 @@
 -- `region_map::fault::parent_fault` meets its contract. Assumes nothing.
+use native.Mathlib.Omega.{arith}
+use Rattle.map_records.specs.Words.{mapOf}
+use Rattle.region_map.proofs.FaultLaws.{parent-known}
 use Rattle.region_map.specs.Fault.{parentFault}
+use mathlib.Core.Path.{sym}
 use borrow.Author.Tests.{eq-eqb, ne-eqb, le-leb, lt-leb}
 use borrow.Author.Needs.{needs}
 use Rattle.region_map.proofs.fault.parent_fault.Statement.{statement}
 use Rattle.region_map.proofs.fault.parent_fault.Tie as tie
+use Rattle.map_records.proofs.words.region_at.Reads as region-at-reads
+use Rattle.map_records.proofs.words.region_count.Reads as region-count-reads
 
-mul-field : tie.Need-mul-field
-mul-field c = search needs
-
-element-copy-out-field : tie.Need-element-copy-out-field
-element-copy-out-field c = search needs
+region-at-requires : tie.Need-region-at-requires
+region-at-requires c κs = search needs
 
 returns : tie.Need-returns
 unfolding parentFault
-returns c = simp (eq-eqb _ _ (c .if1 .taken))
+returns c = simp (sym (c .before .region-at .ensures), eq-eqb _ _ (c .if1 .taken))
 
 sub-parent : tie.Need-sub-parent
 sub-parent c = search needs
 
 returns-2 : tie.Need-returns-2
 unfolding parentFault
-returns-2 c = simp (ne-eqb _ _ (c .before .if1 .left), le-leb _ _ (c .if2 .taken))
+returns-2 c = simp (sym (c .before .before .region-at .ensures), ne-eqb _ _ (c .before .if1 .left), le-leb _ _ (c .if2 .taken))
+
+region-count-requires : tie.Need-region-count-requires
+region-count-requires c κs = search needs
 
 returns-3 : tie.Need-returns-3
 unfolding parentFault
-returns-3 c = simp (ne-eqb _ _ (c .before .before .if1 .left), lt-leb _ _ (c .before .if2 .left), le-leb _ _ (c .if3 .taken))
+returns-3 c = simp (sym (c .before .before .before .before .region-at .ensures), sym (c .before .region-count .ensures), ne-eqb _ _ (c .before .before .before .if1 .left), lt-leb _ _ (c .before .before .if2 .left), le-leb _ _ (c .if3 .taken))
 
-mul-kind : tie.Need-mul-kind
-mul-kind c = search needs
-
-element-copy-out-kind : tie.Need-element-copy-out-kind
-element-copy-out-kind c = search needs
+region-at-requires-2 : tie.Need-region-at-requires-2
+region-at-requires-2 c κs = search needs
 
 returns-4 : tie.Need-returns-4
 unfolding parentFault
-returns-4 c = simp (ne-eqb _ _ (c .before .before .if1 .left), lt-leb _ _ (c .before .if2 .left), lt-leb _ _ (c .if3 .left))
+returns-4 c =
+    parent-known (mapOf (c .before .before .before .before .before .before .before .args .map .now)) (c .before .before .before .before .before .before .before .args .n) _ _ (c .before .before .before .before .before .region-at .ensures) (c .region-at2 .ensures) (c .before .before .before .before .if1 .left) (c .before .before .before .if2 .left)
+    (omega (arith, c .before .if3 .left, c .before .before .region-count .ensures))
 
 pub parent-fault-spec : {M : Type 1} → statement M
 parent-fault-spec =
     tie.close
     (tie.spec
-    mul-field
-    element-copy-out-field
+    region-at-requires
     returns
     sub-parent
     returns-2
+    region-count-requires
     returns-3
-    mul-kind
-    element-copy-out-kind
+    region-at-requires-2
     returns-4)

@@ -1,94 +1,132 @@
 -- `region_map::flat::emit` meets its contract. Assumes nothing.
-use mathlib.Core.Path.{_≡_}
+use mathlib.Core.Path.{_≡_, sym, subst, ap, _∙_}
+use mathlib.Core.Bool.{Bool, true, false}
 use mathlib.Core.List.{List}
-use Prim.Native.Nat.{_+_, _-_, _≤_, _<_}
+use Prim.Native.Nat.{ℕ, _+_, _-_, _≤_, _<_}
 use native.Mathlib.Omega.{arith}
+use lib.ListN.{length}
+use Rattle.map_records.specs.View.{entries}
+use Rattle.map_records.specs.Words.{mapOf, viewOf}
+use Rattle.map_records.specs.declared.map.RegionMap.{RegionMap}
+use Rattle.map_records.specs.declared.view.FlatRange.{FlatRange}
 use Rattle.region_map.specs.Walk.{walkRoot}
 use Rattle.region_map.specs.FlatList.{flat}
-use Rattle.region_map.specs.Flatten.{backingOf, entries, Grew, Blank}
+use Rattle.region_map.specs.Flatten.{backingOf, Viewed, Grows, Blank}
 use Rattle.region_map.specs.Pieces.{horizonOf, endOf}
-use Rattle.region_map.specs.declared.view.FlatRange.{FlatRange}
 use Rattle.region_map.proofs.RenderLaws.{Emitted, none-emitted, all-emitted, piece-grew, one-emitted}
-use Rattle.region_map.proofs.ViewLaws.{still-full, kept}
+use Rattle.region_map.proofs.ViewLaws.{step-leaf, still-full, kept}
 use Rattle.region_map.proofs.flat.emit.Statement.{statement}
 use Rattle.region_map.proofs.flat.emit.Tie as tie
+use Rattle.region_map.proofs.flat.backing_of.Reads as backing-of-reads
+use Rattle.region_map.proofs.flat.push_range.Reads as push-range-reads
+use Rattle.region_map.proofs.pieces.least.Reads as least-reads
+use Rattle.region_map.proofs.pieces.piece_at.Reads as piece-at-reads
 
 abbrev Inv-loop : tie.InvT-loop
-Inv-loop map table count view₀ i₀ view i = (view .count ≤ 256) × Emitted (backingOf map) (walkRoot map) table i (entries view) × (Blank view₀ → Blank view)
+Inv-loop map view₀ table count i₀ view i = Viewed view × Emitted (backingOf (mapOf map)) (walkRoot (mapOf map)) table i (entries (viewOf view)) × (Blank (viewOf view₀) → Blank (viewOf view))
 
 abbrev μ-loop : tie.MeasureT-loop
-μ-loop map table count view₀ i₀ view i = count - i
+μ-loop map view₀ table count i₀ view i = count - i
+
+-- a turn's map and table, and the loop before it
+abbrev theMap : tie.After-push-range Inv-loop μ-loop → RegionMap
+theMap c = mapOf (c .before .before .before .before .before .before .before .before .before .before .before .before .before .before .args .map .now)
+
+abbrev theTable : tie.After-push-range Inv-loop μ-loop → List ℕ
+theTable c = c .before .before .before .before .before .before .before .before .before .before .before .before .before .before .args .table .now
+
+abbrev stop : tie.After-push-range Inv-loop μ-loop → ℕ
+stop c = c .before .before .before .before .before .least .result
 
 -- where a piece ends, or the table: as `least` says, with the piece's own end
-ends : (c : tie.After-extend Inv-loop μ-loop)
-    → (c .before .least .result ≤ endOf (c .before .before .before .before .before .before .before .before .args .table .now) (c .before .before .before .before .before .loop .i))
-    × (c .before .least .result < endOf (c .before .before .before .before .before .before .before .before .args .table .now) (c .before .before .before .before .before .loop .i) → horizonOf (c .before .before .before .before .before .before .before .before .args .table .now) ≤ c .before .least .result)
+ends : (c : tie.After-push-range Inv-loop μ-loop)
+    → (stop c ≤ endOf (theTable c) (c .before .before .before .before .before .before .before .before .before .loop .i)) × (stop c < endOf (theTable c) (c .before .before .before .before .before .before .before .before .before .loop .i) → horizonOf (theTable c) ≤ stop c)
 ends c =
-    let p = c .before .before .before .piece-at .ensures in
-    (omega (arith, c .before .least .ensures .0, p .1), λ h. c .before .least .ensures .3 (omega (arith, p .1)))
+    let p = c .before .before .before .before .before .before .before .piece-at .ensures in
+    (omega (arith, c .before .before .before .before .before .least .ensures .0, p .1), λ h. c .before .before .before .before .before .least .ensures .3 (omega (arith, p .1)))
 
--- after a turn the answer is the list of the addresses passed
-turn : (c : tie.After-extend Inv-loop μ-loop) → Grew (flat (backingOf (c .before .before .before .before .before .before .before .before .args .map)) (walkRoot (c .before .before .before .before .before .before .before .before .args .map)) (c .before .least .result)) (c .extend .result)
+-- after a turn the view is the list of the addresses passed
+turn : (c : tie.After-push-range Inv-loop μ-loop) → Grows (flat (backingOf (theMap c)) (walkRoot (theMap c)) (stop c)) (c .before .before .before .before .before .before .before .before .before .loop .view) (c .push-range .result) (c .push-range .last .0)
 turn c =
-    let s = c .before .before .before .before .before .before .before .before in
-    let p = c .before .before .before .piece-at .ensures in
-    piece-grew (backingOf (s .args .map)) (walkRoot (s .args .map)) _ (s .pre .1 .0) (s .pre .1 .1 .1) (c .before .before .before .before .before .loop .i) _ (c .before .before .before .before .loop-test .taken) (c .before .before .before .before .before .loop .inv .1) (c .before .least .result) (ends c .0) (c .before .least .ensures .1) (ends c .1)
-    _ _ _ _ (p .0) (p .2) (p .3) (c .extend .ensures .0)
+    let s = c .before .before .before .before .before .before .before .before .before .before .before .before .before .before in
+    let p = c .before .before .before .before .before .before .before .piece-at in
+    record {
+      grew =
+          piece-grew (backingOf (theMap c)) (walkRoot (theMap c)) _ (s .pre .1 .1 .0) (s .pre .1 .1 .1 .1) (c .before .before .before .before .before .before .before .before .before .loop .i) _ (c .before .before .before .before .before .before .before .before .loop-test .taken) (c .before .before .before .before .before .before .before .before .before .loop .inv .1) (stop c) (ends c .0) (c .before .before .before .before .before .least .ensures .1) (ends c .1)
+          _ _ _ _ (p .ensures .0) (p .ensures .2) (p .ensures .3)
+          (step-leaf (backingOf (theMap c)) _ (p .result .first) (record { 0 = stop c - 1 }) (p .result .region) (p .result .offset) (c .before .before .before .before .backing-of .result) _ (c .before .before .before .before .backing-of .ensures) (c .push-range .ensures .grew));
+      blank = c .push-range .ensures .blank;
+      words = c .push-range .ensures .words;
+    }
 
-emitted : (c : tie.After-extend Inv-loop μ-loop) (k : List FlatRange) → k ≡ flat (backingOf (c .before .before .before .before .before .before .before .before .args .map)) (walkRoot (c .before .before .before .before .before .before .before .before .args .map)) (c .before .least .result)
-    → Emitted (backingOf (c .before .before .before .before .before .before .before .before .args .map)) (walkRoot (c .before .before .before .before .before .before .before .before .args .map)) (c .before .before .before .before .before .before .before .before .args .table .now) (c .before .before .before .before .before .loop .i + 1) k
+emitted : (c : tie.After-push-range Inv-loop μ-loop) (k : List FlatRange) → k ≡ flat (backingOf (theMap c)) (walkRoot (theMap c)) (stop c)
+    → Emitted (backingOf (theMap c)) (walkRoot (theMap c)) (theTable c) (c .before .before .before .before .before .before .before .before .before .loop .i + 1) k
 emitted c =
-    let s = c .before .before .before .before .before .before .before .before in
-    one-emitted (backingOf (s .args .map)) (walkRoot (s .args .map)) _ (s .pre .1 .0) (s .pre .1 .1 .1) (c .before .before .before .before .before .loop .i) _ (c .before .before .before .before .loop-test .taken) (c .before .before .before .before .before .loop .inv .1) (c .before .least .result) (ends c .0) (c .before .least .ensures .1) (ends c .1)
+    let s = c .before .before .before .before .before .before .before .before .before .before .before .before .before .before in
+    one-emitted (backingOf (theMap c)) (walkRoot (theMap c)) _ (s .pre .1 .1 .0) (s .pre .1 .1 .1 .1) (c .before .before .before .before .before .before .before .before .before .loop .i) _ (c .before .before .before .before .before .before .before .before .loop-test .taken) (c .before .before .before .before .before .before .before .before .before .loop .inv .1) (stop c) (ends c .0) (c .before .before .before .before .before .least .ensures .1) (ends c .1)
 
 shared-slice-read-count : tie.Need-shared-slice-read-count Inv-loop μ-loop
-shared-slice-read-count c = omega (arith, c .before .before .pre .1 .0 .size)
+shared-slice-read-count c = omega (arith, c .before .before .before .before .pre .1 .1 .0 .size)
 
 loop-holds : tie.Need-loop-holds Inv-loop μ-loop
 loop-holds c =
-    let s = c .before .before in
-    (s .pre .0, none-emitted (backingOf (s .args .map)) (walkRoot (s .args .map)) _ (s .pre .1 .0) _ (s .pre .1 .1 .0), λ b. b)
+    let s = c .before .before .before .before in
+    (s .pre .1 .0, none-emitted (backingOf (mapOf (s .args .map .now))) (walkRoot (mapOf (s .args .map .now))) _ (s .pre .1 .1 .0) _ (s .pre .1 .1 .1 .0), λ b. b)
 
 piece-at-requires : tie.Need-piece-at-requires Inv-loop μ-loop
-piece-at-requires c κs = (c .before .before .before .before .pre .1 .0 .size, omega (arith, c .loop-test .taken, c .before .before .before .before .pre .1 .0 .few))
+piece-at-requires c κs = (c .before .before .before .before .before .before .pre .1 .1 .0 .size, omega (arith, c .loop-test .taken, c .before .before .before .before .before .before .pre .1 .1 .0 .few))
 
 shared-slice-read-least : tie.Need-shared-slice-read-least Inv-loop μ-loop
-shared-slice-read-least c = omega (arith, c .before .before .before .before .before .before .pre .1 .0 .size)
+shared-slice-read-least c = omega (arith, c .before .before .before .before .before .before .before .before .pre .1 .1 .0 .size)
 
 least-requires : tie.Need-least-requires Inv-loop μ-loop
 least-requires c κs = tt
 
-sub-last : tie.Need-sub-last Inv-loop μ-loop
-sub-last c =
-    let g = c .before .before .before .before .before .before .before .pre .1 .0 in
-    let p = c .before .before .piece-at .ensures in
-    let o = g .order (c .before .before .before .before .loop .i) (c .before .before .before .loop-test .taken) in
-    c .least .ensures .2 (omega (arith, o, p .1)) (omega (arith, g .ahead))
+backing-of-requires : tie.Need-backing-of-requires Inv-loop μ-loop
+backing-of-requires c κs = (c .before .before .before .before .before .before .before .before .before .pre .0, omega (arith, c .before .before .piece-at .ensures .2, c .before .before .before .before .before .before .before .before .before .pre .1 .1 .0 .regions (c .before .before .before .before .loop .i) (c .before .before .before .loop-test .taken)))
 
-extend-requires : tie.Need-extend-requires Inv-loop μ-loop
-extend-requires c κs =
-    (c .before .before .before .before .loop .inv .0, omega (arith, c .before .before .piece-at .ensures .2, c .before .before .before .before .before .before .before .pre .1 .0 .regions (c .before .before .before .before .loop .i) (c .before .before .before .loop-test .taken)))
+sub-t16 : tie.Need-sub-t16 Inv-loop μ-loop
+sub-t16 c =
+    let g = c .before .before .before .before .before .before .before .before .before .before .before .before .pre .1 .1 .0 in
+    let p = c .before .before .before .before .before .piece-at .ensures in
+    let o = g .order (c .before .before .before .before .before .before .before .loop .i) (c .before .before .before .before .before .before .loop-test .taken) in
+    c .before .before .before .least .ensures .2 (omega (arith, o, p .1)) (omega (arith, g .ahead))
+
+push-range-requires : tie.Need-push-range-requires Inv-loop μ-loop
+push-range-requires c κs = c .before .before .before .before .before .before .before .before .loop .inv .0
+
+same-length : tie.Need-same-length Inv-loop μ-loop
+same-length c = c .before .before .before .push-range .ensures .words ∙ sym (c .before .before .before .before .before .before .before .before .before .before .before .before .before .before .before .before .before .pre .1 .0 .words)
 
 returns : tie.Need-returns Inv-loop μ-loop
 returns c =
-    let e = c .before in
-    (still-full _ _ _ _ _ (e .before .least .ensures .1) (c .if1 .taken) (turn e), λ b. e .extend .ensures .1 (e .before .before .before .before .before .loop .inv .2 b))
+    let e = c .before .before .before in
+    subst (λ (b : Bool). Grows (flat (backingOf (theMap e)) (walkRoot (theMap e)) (horizonOf (theTable e))) (c .before .before .before .before .before .before .before .before .before .before .before .before .before .before .before .before .before .args .view .now) b (e .push-range .last .0)) (c .if1 .taken)
+    (record { grew = still-full _ _ _ _ _ (c .before .before .before .before .before .before .before .before .least .ensures .1) (c .if1 .taken) (turn e .grew); blank = λ b. turn e .blank (c .before .before .before .before .before .before .before .before .before .before .before .before .loop .inv .2 b); words = turn e .words })
 
 add-i : tie.Need-add-i Inv-loop μ-loop
-add-i c = omega (arith, c .before .before .before .before .before .before .loop-test .taken, c .before .before .before .before .before .before .before .before .before .before .pre .1 .0 .few)
+add-i c = omega (arith, c .before .before .before .before .before .before .before .before .before .before .before .loop-test .taken, c .before .before .before .before .before .before .before .before .before .before .before .before .before .before .before .before .before .pre .1 .1 .0 .few)
 
 loop-less : tie.Need-loop-less Inv-loop μ-loop
-loop-less c = omega (arith, c .before .before .before .before .before .before .loop-test .taken)
+loop-less c = omega (arith, c .before .before .before .before .before .before .before .before .before .before .before .loop-test .taken)
 
 loop-again : tie.Need-loop-again Inv-loop μ-loop
 loop-again c =
-    let e = c .before .before in
-    (turn e .room, emitted e _ (turn e .list (c .before .if1 .left)), λ b. e .extend .ensures .1 (e .before .before .before .before .before .loop .inv .2 b))
+    let e = c .before .before .before in
+    (record { words = turn e .words; few = turn e .grew .room }, emitted e _ (turn e .grew .list (c .if1 .left)), λ b. turn e .blank (c .before .before .before .before .before .before .before .before .before .before .before .before .loop .inv .2 b))
+
+same-length-2 : tie.Need-same-length-2 Inv-loop μ-loop
+same-length-2 c = c .before .loop .inv .0 .words ∙ sym (c .before .before .before .before .before .before .pre .1 .0 .words)
 
 returns-2 : tie.Need-returns-2 Inv-loop μ-loop
 returns-2 c =
-    let s = c .before .before .before .before in
-    (kept _ (c .before .loop .inv .0) _ (all-emitted (backingOf (s .args .map)) (walkRoot (s .args .map)) _ (s .pre .1 .0) (s .pre .1 .1 .1) (c .before .loop .i) _ (c .loop-test .left) (c .before .loop .inv .1)), c .before .loop .inv .2)
+    let s = c .before .before .before .before .before .before in
+    let l = c .before .loop in
+    record {
+      grew = kept (viewOf (l .view)) (l .inv .0 .few) _ (all-emitted (backingOf (mapOf (s .args .map .now))) (walkRoot (mapOf (s .args .map .now))) _ (s .pre .1 .1 .0) (s .pre .1 .1 .1 .1) (l .i) _ (c .loop-test .left) (l .inv .1));
+      blank = l .inv .2;
+      words = l .inv .0 .words;
+    }
 
 pub emit-spec : {M : Type 1} → statement M
 emit-spec =
@@ -101,10 +139,13 @@ emit-spec =
     piece-at-requires
     shared-slice-read-least
     least-requires
-    sub-last
-    extend-requires
+    backing-of-requires
+    sub-t16
+    push-range-requires
+    same-length
     returns
     add-i
     loop-less
     loop-again
+    same-length-2
     returns-2)

@@ -1,84 +1,113 @@
 -- `region_map::flat::push_range` meets its contract. Assumes nothing.
-use mathlib.Core.Path.{_≡_, refl, sym, _∙_}
-use mathlib.Core.Bool.{false}
+use mathlib.Core.Path.{_≡_, sym, subst, ap, _∙_}
+use mathlib.Core.Bool.{true, false}
+use mathlib.Core.List.{List}
 use mathlib.Core.Logic.{⊎-elim}
-use Prim.Native.Nat.{_-_, _<_}
+use Prim.Native.Nat.{ℕ, _+_, _-_, _*_, _<_}
 use native.Mathlib.Omega.{arith}
-use lib.ListN.{length, getD, length-map}
+use lib.ListN.{length, set, length-set}
+use lib.Seq.{sets, length-sets}
+use Rattle.map_records.specs.View.{rangeOf, entries}
+use Rattle.map_records.specs.Words.{viewOf, rangeWords}
+use Rattle.map_records.specs.declared.view.FlatRange.{FlatRange}
+use Rattle.region_map.specs.FlatList.{joins, push}
+use Rattle.region_map.specs.Flatten.{Grows}
+use Rattle.region_map.proofs.ViewWords.{grew-words, added-words, refused-words}
 use borrow.Author.Needs.{needs}
-use Rattle.region_map.proofs.ViewLaws.{grew, added, refused, blank-grown, blank-added}
-use Rattle.region_map.specs.Flatten.{noRange}
-use Rattle.region_map.specs.FlatList.{joins}
 use Rattle.region_map.proofs.flat.push_range.Statement.{statement}
 use Rattle.region_map.proofs.flat.push_range.Tie as tie
+use Rattle.map_records.proofs.words.count_of.Reads as count-of-reads
+use Rattle.map_records.proofs.words.put_count.Reads as put-count-reads
+use Rattle.map_records.proofs.words.put_range.Reads as put-range-reads
+use Rattle.map_records.proofs.words.range_at.Reads as range-at-reads
+use Rattle.region_map.proofs.flat.goes_on.Reads as goes-on-reads
 
--- the array has its 256 entries
-whole : (c : tie.Start) → length (c .args .t1 .ranges) ≡ 256
-whole c = simp length-map at (c .good .0 .1 .1 .1 .0 .1 .0 .1)
-
--- where the arms meet: there is no last entry, or the new one does not join it
+-- where the arms meet: there is no last range, or the new one does not join it
 behind : (c : tie.Joined1)
-    → 0 < c .before .args .t1 .count → joins (getD (c .before .args .t1 .ranges) (c .before .args .t1 .count - 1) noRange) (c .before .args .r) ≡ false
-behind c = ⊎-elim (λ w p. sym (w .2 .ensures) ∙ w .3 .left) (λ w p. absurd (omega (arith, w .left))) (c .if1 .came)
+    → 0 < viewOf (c .before .before .before .before .args .view .now) .count
+    → joins (rangeOf (viewOf (c .before .before .before .before .args .view .now)) (viewOf (c .before .before .before .before .args .view .now) .count - 1)) (c .before .before .before .before .args .r) ≡ false
+behind c =
+    let n = c .before .count-of .ensures in
+    let k : c .before .count-of .result - 1 ≡ viewOf (c .before .before .before .before .args .view .now) .count - 1 = omega (arith, n) in
+    ⊎-elim
+    (λ w p. subst (λ (x : FlatRange). joins x (c .before .before .before .before .args .r) ≡ false) (w .2 .ensures ∙ ap (rangeOf (viewOf (c .before .before .before .before .args .view .now))) k) (sym (w .3 .ensures) ∙ w .4 .left))
+    (λ w p. absurd (omega (arith, w .left, n))) (c .if1 .came)
+
+-- what the two ways of putting a range leave
+grown-here : (c : tie.After-slice-known2)
+    → Grows (push (entries (viewOf (c .before .before .before .before .before .before .before .before .before .before .before .before .before .before .before .args .view .now))) (c .before .before .before .before .before .before .before .before .before .before .before .before .before .before .before .args .r)) (c .before .before .before .before .before .before .before .before .before .before .before .before .before .before .before .args .view .now) false (c .before .before .put-range .last .0)
+grown-here c =
+    let s = c .before .before .before .before .before .before .before .before .before .before .before .before .before .before .before in
+    let n = c .before .before .before .before .before .before .before .before .before .before .before .before .count-of in
+    subst (λ (x : List ℕ). Grows (push (entries (viewOf (s .args .view .now))) (s .args .r)) (s .args .view .now) false x) (sym (c .before .before .put-range .ensures))
+    (grew-words (s .args .view .now) (s .args .r) (s .pre) (n .result - 1) (omega (arith, n .ensures, c .before .before .before .before .before .before .before .before .before .before .before .if1 .taken)) (omega (arith, n .ensures)) (c .before .before .before .before .before .before .before .before .before .range-at .result) (c .before .before .before .before .before .before .before .before .before .range-at .ensures) (sym (c .before .before .before .before .before .before .before .before .goes-on .ensures) ∙ c .before .before .before .before .before .before .before .if2 .taken))
+
+added-here : (c : tie.After-slice-known4)
+    → Grows (push (entries (viewOf (c .before .before .before .before .before .before .before .before .before .before .before .before .before .args .view .now))) (c .before .before .before .before .before .before .before .before .before .before .before .before .before .args .r)) (c .before .before .before .before .before .before .before .before .before .before .before .before .before .args .view .now) false (c .before .before .put-count .last .0)
+added-here c =
+    let s = c .before .before .before .before .before .before .before .before .before .before .before .before .before in
+    let n = c .before .before .before .before .before .before .before .before .before .before .count-of in
+    subst (λ (x : List ℕ). Grows (push (entries (viewOf (s .args .view .now))) (s .args .r)) (s .args .view .now) false x)
+    (sym (c .before .before .put-count .ensures ∙ ap (λ (x : List ℕ). set x 0 (n .result + 1)) (c .before .before .before .before .before .before .put-range2 .ensures)))
+    (added-words (s .args .view .now) (s .args .r) (s .pre) (behind (c .before .before .before .before .before .before .before .before .before)) (n .result) (n .ensures) (omega (arith, c .before .before .before .before .before .before .before .before .if3 .left, n .ensures, s .pre .few)))
+
+count-of-requires : tie.Need-count-of-requires
+count-of-requires c κs = search needs
 
 sub-k : tie.Need-sub-k
 sub-k c = search needs
 
-mul-x : tie.Need-mul-x
-mul-x c = search needs
-
-element-copy-out-x : tie.Need-element-copy-out-x
-element-copy-out-x c = search needs
+range-at-requires : tie.Need-range-at-requires
+range-at-requires c κs = (c .before .before .before .before .before .pre .words, omega (arith, c .before .if1 .taken, c .before .before .count-of .ensures, c .before .before .before .before .before .pre .few))
 
 goes-on-requires : tie.Need-goes-on-requires
 goes-on-requires c κs = search needs
 
-mul-t17 : tie.Need-mul-t17
-mul-t17 c = search needs
+put-range-requires : tie.Need-put-range-requires
+put-range-requires c κs = (c .before .before .before .before .before .before .before .before .before .before .before .before .pre .words, omega (arith, c .before .before .before .before .before .before .before .before .if1 .taken, c .before .before .before .before .before .before .before .before .before .count-of .ensures, c .before .before .before .before .before .before .before .before .before .before .before .before .pre .few))
 
-element-set-from-v : tie.Need-element-set-from-v
-element-set-from-v c = search needs
+same-length : tie.Need-same-length
+same-length c = grown-here c .words ∙ sym (c .before .before .before .before .before .before .before .before .before .before .before .before .before .before .before .pre .words)
 
 returns : tie.Need-returns
-returns c = (
-  grew (c .before .before .before .before .before .before .before .args .t1) (c .before .before .before .before .before .before .before .args .r) (whole (c .before .before .before .before .before .before .before)) (search needs) (search needs)
-      (sym (c .before .before .before .before .goes-on .ensures) ∙ c .before .before .before .if2 .taken),
-  blank-grown (c .before .before .before .before .before .before .before .args .t1) _ (search needs),
-)
+returns c = grown-here c
+
+same-length-2 : tie.Need-same-length-2
+same-length-2 c = search needs
 
 returns-2 : tie.Need-returns-2
-returns-2 c =
-    (refused (c .before .before .args .t1) (c .before .before .args .r) (whole (c .before .before)) (search needs) (behind (c .before)) (search needs), λ b. b)
+returns-2 c = refused-words (c .before .before .before .before .before .args .view .now) (c .before .before .before .before .before .args .r) (c .before .before .before .before .before .pre) (behind (c .before)) (sym (c .before .before .count-of .ensures) ∙ c .if3 .taken)
 
-mul-r : tie.Need-mul-r
-mul-r c = search needs
+put-range-requires-2 : tie.Need-put-range-requires-2
+put-range-requires-2 c κs = (c .before .before .before .before .before .before .pre .words, omega (arith, c .before .if3 .left, c .before .before .before .count-of .ensures, c .before .before .before .before .before .before .pre .few))
 
-element-set-from-r : tie.Need-element-set-from-r
-element-set-from-r c = search needs
+add-put-count : tie.Need-add-put-count
+add-put-count c = search needs
 
-add-v : tie.Need-add-v
-add-v c = search needs
+put-count-requires : tie.Need-put-count-requires
+put-count-requires c κs = ap length (c .before .before .before .put-range2 .ensures) ∙ length-sets {A = ℕ} (c .before .before .before .before .before .before .before .before .before .before .args .view .now) (1 + 6 * c .before .before .before .before .before .before .before .count-of .result) (rangeWords (c .before .before .before .before .before .before .before .before .before .before .args .r)) ∙ c .before .before .before .before .before .before .before .before .before .before .pre .words
+
+same-length-3 : tie.Need-same-length-3
+same-length-3 c = added-here c .words ∙ sym (c .before .before .before .before .before .before .before .before .before .before .before .before .before .pre .words)
 
 returns-3 : tie.Need-returns-3
-returns-3 c = (
-  added (c .before .before .args .t1) (c .before .before .args .r) (whole (c .before .before)) (search needs) (behind (c .before))
-      (omega (arith, c .if3 .left)),
-  blank-added (c .before .before .args .t1) (c .before .before .args .r),
-)
+returns-3 c = added-here c
 
 pub push-range-spec : {M : Type 1} → statement M
 push-range-spec =
     tie.close
     (tie.spec
+    count-of-requires
     sub-k
-    mul-x
-    element-copy-out-x
+    range-at-requires
     goes-on-requires
-    mul-t17
-    element-set-from-v
+    put-range-requires
+    same-length
     returns
+    same-length-2
     returns-2
-    mul-r
-    element-set-from-r
-    add-v
+    put-range-requires-2
+    add-put-count
+    put-count-requires
+    same-length-3
     returns-3)

@@ -1,119 +1,145 @@
 -- `region_map::flat::sweep` meets its contract. Assumes nothing.
-use mathlib.Core.Path.{_≡_, refl, sym, ap, _∙_}
-use Prim.Native.Nat.{_-_, _≤_}
+use mathlib.Core.Path.{_≡_, refl, sym, ap, subst, _∙_}
+use mathlib.Core.Bool.{Bool}
+use Prim.Native.Nat.{ℕ, _-_, _^_, _≤_, _<_}
 use native.Mathlib.Omega.{arith}
-use lib.ListN.{length, length-map}
+use lib.ListN.{length}
+use Rattle.map_records.specs.Map.{region}
+use Rattle.map_records.specs.View.{entries}
+use Rattle.map_records.specs.Words.{mapOf, viewOf}
+use Rattle.map_records.specs.declared.map.Region.{Region}
+use Rattle.map_records.specs.declared.map.RegionMap.{RegionMap}
 use Rattle.region_map.specs.Walk.{walkRoot}
 use Rattle.region_map.specs.FlatList.{flat}
-use Rattle.region_map.specs.Flatten.{backingOf, rootSize, flatList, entries, Blank}
-use Rattle.region_map.proofs.TreeWords.{words-many, tree-of, root-in, whole-back}
+use Rattle.region_map.specs.Flatten.{backingOf, rootSize, flatList, Viewed, Grows, Blank}
+use Rattle.region_map.proofs.RenderLaws.{whole-from}
 use Rattle.region_map.proofs.ViewLaws.{start, still-full, kept}
 use Rattle.region_map.proofs.flat.sweep.Statement.{statement}
 use Rattle.region_map.proofs.flat.sweep.Tie as tie
 
 abbrev Inv-loop : tie.InvT-loop
-Inv-loop map root size words table₀ view₀ at₀ table view at = (at ≤ size) × (view .count ≤ 256) × (entries view ≡ flat (backingOf map) (walkRoot map) at) × Blank view × (length table ≡ 1027)
+Inv-loop map view₀ root size table₀ at₀ view table at = (at ≤ size) × Viewed view × (entries (viewOf view) ≡ flat (backingOf (mapOf map)) (walkRoot (mapOf map)) at) × (Blank (viewOf view₀) → Blank (viewOf view)) × (length table ≡ 1027)
 
 abbrev μ-loop : tie.MeasureT-loop
-μ-loop map root size words table₀ view₀ at₀ table view at = size - at
+μ-loop map view₀ root size table₀ at₀ view table at = size - at
 
-full : (s : tie.Start Inv-loop μ-loop) → length (s .args .t1 .regions) ≡ 32
-full s = simp length-map at (s .good .0 .1 .1 .1 .0 .1 .0 .1)
+-- the map, and its root as it was read
+abbrev theMap : tie.After-region-at Inv-loop μ-loop → RegionMap
+theMap c = mapOf (c .before .before .before .before .args .map .now)
+
+is-root : (c : tie.After-region-at Inv-loop μ-loop) → c .before .region-count .result - 1 ≡ theMap c .count - 1
+is-root c = omega (arith, c .before .region-count .ensures)
+
+below : (c : tie.After-region-at Inv-loop μ-loop) → c .before .region-count .result - 1 < theMap c .count
+below c = omega (arith, c .before .region-count .ensures, c .before .before .before .before .pre .0 .1)
+
+bounded : (c : tie.After-region-at Inv-loop μ-loop) → c .region-at .result .size ≤ 2 ^ 48
+bounded c = subst (λ (r : Region). r .size ≤ 2 ^ 48) (sym (c .region-at .ensures)) (c .before .before .before .before .pre .0 .0 .walkable .sizes (c .before .region-count .result - 1) (below c))
+
+sized : (c : tie.After-region-at Inv-loop μ-loop) → c .region-at .result .size ≡ rootSize (theMap c)
+sized c = ap (λ (r : Region). r .size) (c .region-at .ensures) ∙ ap (λ (n : ℕ). region (theMap c) n .size) (is-root c)
+
+region-count-requires : tie.Need-region-count-requires Inv-loop μ-loop
+region-count-requires c κs = c .before .before .pre .0 .0 .words
 
 sub-root : tie.Need-sub-root Inv-loop μ-loop
-sub-root c = omega (arith, c .pre .1)
+sub-root c = omega (arith, c .region-count .ensures, c .before .before .before .pre .0 .1)
 
-mul-size : tie.Need-mul-size Inv-loop μ-loop
-mul-size c = omega (arith, c .pre .0 .count)
-
-element-copy-out-size : tie.Need-element-copy-out-size Inv-loop μ-loop
-element-copy-out-size c = omega (arith, c .pre .0 .count, c .pre .1)
-
-words-of-requires : tie.Need-words-of-requires Inv-loop μ-loop
-words-of-requires c κs = tt
-
-empty-view-requires : tie.Need-empty-view-requires Inv-loop μ-loop
-empty-view-requires c κs = tt
+region-at-requires : tie.Need-region-at-requires Inv-loop μ-loop
+region-at-requires c κs = (c .before .before .before .pre .0 .0 .words, omega (arith, c .region-count .ensures, c .before .before .before .pre .0 .0 .walkable .count, c .before .before .before .pre .0 .1))
 
 loop-holds : tie.Need-loop-holds Inv-loop μ-loop
 loop-holds c =
-    let m = c .before .before .args .t1 in
-    let h = start (backingOf m) (walkRoot m) (c .empty-view .result) (c .empty-view .ensures) in
-    (omega arith, h .0, h .1, h .2, refl)
+    let s = c .before .before .before .before in
+    let h = start (backingOf (theMap c)) (walkRoot (theMap c)) (viewOf (s .args .view .now)) (s .pre .1 .1) in
+    (omega arith, record { words = s .pre .1 .0; few = h .0 }, h .1, λ b. b, refl)
 
 slice-aggregate-begin : tie.Need-slice-aggregate-begin Inv-loop μ-loop
 slice-aggregate-begin c = sym (c .before .before .loop .inv .4)
 
 begin-requires : tie.Need-begin-requires Inv-loop μ-loop
-begin-requires c κs =
-    let s = c .before .before .before .before .before in
-    (c .before .before .loop .inv .4, c .before .loop-test .taken, s .pre .0 .sizes (s .args .t1 .count - 1) (omega (arith, s .pre .1)))
+begin-requires c κs = (c .before .before .loop .inv .4, c .before .loop-test .taken, bounded (c .before .before .before))
 
 slice-aggregate-render : tie.Need-slice-aggregate-render Inv-loop μ-loop
-slice-aggregate-render c = sym (words-many (c .before .before .before .before .before .before .before .before .args .t1) (full (c .before .before .before .before .before .before .before .before)) (c .before .before .before .before .before .before .before .words-of .result) (c .before .before .before .before .before .before .before .words-of .ensures))
-
-slice-aggregate-render-2 : tie.Need-slice-aggregate-render-2 Inv-loop μ-loop
-slice-aggregate-render-2 c = sym (c .before .before .before .begin .ensures .0 .size)
+slice-aggregate-render c = sym (c .before .before .begin .ensures .0 .size)
 
 root-offset-requires : tie.Need-root-offset-requires Inv-loop μ-loop
 root-offset-requires c κs = tt
 
 render-requires : tie.Need-render-requires Inv-loop μ-loop
 render-requires c κs =
-    let s = c .before .before .before .before .before .before .before .before .before .before in
-    let w = c .before .before .before .before .before .before .before .before .before .words-of in
-    let b = c .before .before .before .before .begin .ensures in
-    let z = s .pre .0 .sizes (s .args .t1 .count - 1) (omega (arith, s .pre .1)) in (
-      (tree-of (s .args .t1) (full s) (w .result) (w .ensures) (s .pre .0), root-in (s .args .t1) (full s) (w .result) (w .ensures) (s .pre .1)),
-      (b .0, (omega (arith, b .2), z, omega (arith, z, c .root-offset .ensures, c .before .before .before .before .before .before .loop-test .taken))),
-    )
+    let s = c .before .before .before .before .before .before .before .before .before .before .before in
+    let b = c .before .before .before .begin .ensures in
+    let z = bounded (c .before .before .before .before .before .before .before) in
+    ((s .pre .0 .0, below (c .before .before .before .before .before .before .before)), (b .0, (omega (arith, b .2), z, omega (arith, z, c .root-offset .ensures, c .before .before .before .before .before .loop-test .taken))))
 
 slice-aggregate-emit : tie.Need-slice-aggregate-emit Inv-loop μ-loop
-slice-aggregate-emit c = sym (c .before .before .render .ensures .kept .size)
+slice-aggregate-emit c = sym (c .before .before .before .render .ensures .kept .size)
 
 emit-requires : tie.Need-emit-requires Inv-loop μ-loop
 emit-requires c κs =
-    let s = c .before .before .before .before .before .before .before .before .before .before .before .before .before in
-    let w = c .before .before .before .before .before .before .before .before .before .before .before .before .words-of in
+    let s = c .before .before .before .before .before .before .before .before .before .before .before .before .before .before .before in
+    let a = c .before .before .before .before .before .before .before .before .before .before .before in
     let l = c .before .before .before .before .before .before .before .before .before .before .loop in
     let b = c .before .before .before .before .before .before .before .begin .ensures in
-    let r = c .before .before .render .ensures in (
-      l .inv .1,
+    let r = c .before .before .before .render .ensures in (
+      s .pre .0 .0 .words,
       (
-        r .kept,
+        l .inv .1,
         (
-          l .inv .2 ∙ ap (flat (backingOf (s .args .t1)) (walkRoot (s .args .t1))) (sym (r .start ∙ b .2)),
-          whole-back (s .args .t1) (full s) (w .result) (w .ensures) _ _ _ _ _ (b .1) (b .2) (b .3) (c .before .before .before .root-offset .ensures) r,
+          r .kept,
+          (
+            l .inv .2 ∙ ap (flat (backingOf (theMap a)) (walkRoot (theMap a))) (sym (r .start ∙ b .2)),
+            whole-from (theMap a) _ (is-root a) _ _ _ _ _ (b .1) (b .2) (b .3) (c .before .before .before .before .root-offset .ensures) r,
+          ),
         ),
       ),
     )
 
+same-length : tie.Need-same-length Inv-loop μ-loop
+same-length c = c .before .before .before .emit .ensures .words ∙ sym (c .before .before .before .before .before .before .before .before .before .before .before .before .before .before .before .before .before .before .before .pre .1 .0)
+
 returns : tie.Need-returns Inv-loop μ-loop
 unfolding flatList
 returns c =
-    (still-full _ _ _ _ _ (omega (arith, c .before .before .before .before .render .ensures .within, c .before .before .before .before .before .before .before .before .before .begin .ensures .3)) (c .if1 .taken) (c .before .emit .ensures .0), c .before .emit .ensures .1 (c .before .before .before .before .before .before .before .before .before .before .before .before .loop .inv .3))
+    let e = c .before .before .before .emit .ensures in
+    let a = c .before .before .before .before .before .before .before .before .before .before .before .before .before .before .before in
+    subst (λ (b : Bool). Grows (flatList (theMap a)) (c .before .before .before .before .before .before .before .before .before .before .before .before .before .before .before .before .before .before .before .args .view .now) b (c .before .before .before .emit .last .1 .0)) (c .if1 .taken)
+    (record {
+      grew = still-full _ _ _ _ _ (omega (arith, c .before .before .before .before .before .before .before .render .ensures .within, c .before .before .before .before .before .before .before .before .before .before .before .begin .ensures .3, sized a)) (c .if1 .taken) (e .grew);
+      blank = λ b. e .blank (c .before .before .before .before .before .before .before .before .before .before .before .before .before .before .loop .inv .3 b);
+      words = e .words;
+    })
 
 array-read-at : tie.Need-array-read-at Inv-loop μ-loop
 array-read-at c = omega arith
 
 loop-less : tie.Need-loop-less Inv-loop μ-loop
 loop-less c =
-    let b = c .before .before .before .before .before .before .before .before .before .before .begin .ensures in
-    let r = c .before .before .before .before .before .render .ensures in
-    omega (arith, c .before .before .before .before .before .before .before .before .before .before .before .before .loop-test .taken, b .2, b .3, r .start, r .within, r .kept .ahead)
+    let b = c .before .before .before .before .before .before .before .before .before .before .before .begin .ensures in
+    let r = c .before .before .before .before .before .before .before .render .ensures in
+    omega (arith, c .before .before .before .before .before .before .before .before .before .before .before .before .before .loop-test .taken, b .2, b .3, r .start, r .within, r .kept .ahead)
 
 loop-again : tie.Need-loop-again Inv-loop μ-loop
 loop-again c =
-    let e = c .before .before .emit .ensures in
-    let r = c .before .before .before .before .before .render .ensures in
-    (omega (arith, r .within, c .before .before .before .before .before .before .before .before .before .before .begin .ensures .3), e .0 .room, e .0 .list (c .before .if1 .left), e .1 (c .before .before .before .before .before .before .before .before .before .before .before .before .before .loop .inv .3), r .kept .size)
+    let e = c .before .before .before .emit .ensures in
+    let r = c .before .before .before .before .before .before .before .render .ensures in
+    (omega (arith, r .within, c .before .before .before .before .before .before .before .before .before .before .before .begin .ensures .3), record { words = e .words; few = e .grew .room }, e .grew .list (c .if1 .left), λ b. e .blank (c .before .before .before .before .before .before .before .before .before .before .before .before .before .before .loop .inv .3 b), r .kept .size)
+
+same-length-2 : tie.Need-same-length-2 Inv-loop μ-loop
+same-length-2 c = c .before .loop .inv .1 .words ∙ sym (c .before .before .before .before .before .before .pre .1 .0)
 
 returns-2 : tie.Need-returns-2 Inv-loop μ-loop
 unfolding flatList
 returns-2 c =
-    let m = c .before .before .before .before .args .t1 in
-    let e : c .before .loop .at ≡ rootSize (c .before .before .before .before .args .t1) = omega (arith, c .before .loop .inv .0, c .loop-test .left) in
-    (kept _ (c .before .loop .inv .1) _ (c .before .loop .inv .2 ∙ ap (flat (backingOf m) (walkRoot m)) e), c .before .loop .inv .3)
+    let l = c .before .loop in
+    let a = c .before .before in
+    let e : l .at ≡ rootSize (theMap a) = omega (arith, l .inv .0, c .loop-test .left, sized a) in
+    record {
+      grew = kept (viewOf (l .view)) (l .inv .1 .few) _ (l .inv .2 ∙ ap (flat (backingOf (theMap a)) (walkRoot (theMap a))) e);
+      blank = l .inv .3;
+      words = l .inv .1 .words;
+    }
 
 pub sweep-spec : {M : Type 1} → statement M
 sweep-spec =
@@ -121,22 +147,21 @@ sweep-spec =
     (tie.spec
     Inv-loop
     μ-loop
+    region-count-requires
     sub-root
-    mul-size
-    element-copy-out-size
-    words-of-requires
-    empty-view-requires
+    region-at-requires
     loop-holds
     slice-aggregate-begin
     begin-requires
     slice-aggregate-render
-    slice-aggregate-render-2
     root-offset-requires
     render-requires
     slice-aggregate-emit
     emit-requires
+    same-length
     returns
     array-read-at
     loop-less
     loop-again
+    same-length-2
     returns-2)

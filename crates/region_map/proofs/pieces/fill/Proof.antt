@@ -1,12 +1,11 @@
 -- `region_map::pieces::fill` meets its contract. The loop's invariant: below the address `a`, whose place is `i`, the table shows the window behind what it showed at first. The measure is
 -- what is left up to the end. Assumes nothing.
 use mathlib.Core.Path.{sym, _∙_}
-use mathlib.Core.Logic.{⊎-elim}
-use Prim.Native.Nat.{_-_, _<_}
+use Prim.Native.Nat.{_-_}
 use native.Mathlib.Nat.{le-of-lt}
 use lib.ListN.{length-set}
 use native.Mathlib.Omega.{arith}
-use Rattle.region_map.proofs.FillLaws.{Filled, filled-first, filled-horizon, filled-end, filled-past, filled-fits, filled-put, filled-cut, filled-as}
+use Rattle.region_map.proofs.FillLaws.{Filled, filled-first, filled-horizon, filled-end, filled-run, filled-fits, filled-put, filled-cut}
 use Rattle.region_map.proofs.pieces.fill.Statement.{statement}
 use Rattle.region_map.proofs.pieces.fill.Tie as tie
 
@@ -36,11 +35,23 @@ free-until-requires c κs =
     let f = c .before .before .before .before .before .loop .inv in
     (f .kept, (f .spot, le-of-lt (c .before .before .before .if1 .taken)))
 
-piece-at-requires : tie.Need-piece-at-requires Inv-loop μ-loop
-piece-at-requires c κs =
+skip-requires : tie.Need-skip-requires Inv-loop μ-loop
+skip-requires c κs =
     let f = c .before .before .before .before .before .before .before .before .loop .inv in
     let t = c .before .before .free-until .ensures .taken (c .before .if3 .taken) (c .before .before .before .before .before .before .if1 .taken) in
-    (f .kept .size, omega (arith, t .0, f .kept .few))
+    (f .kept, t .0)
+
+loop-less : tie.Need-loop-less Inv-loop μ-loop
+loop-less c =
+    let l = c .before .before .before .before .before .before .before .before .before .loop in
+    let h = c .before .before .before .before .before .before .before .if1 .taken in
+    let t = c .before .before .before .free-until .ensures .taken (c .before .before .if3 .taken) h in
+    omega (arith, h, c .skip .ensures .past, l .inv .spot .after (t .0))
+
+loop-again : tie.Need-loop-again Inv-loop μ-loop
+loop-again c =
+    let t = c .before .before .before .free-until .ensures .taken (c .before .before .if3 .taken) (c .before .before .before .before .before .before .before .if1 .taken) in
+    filled-run (c .before .before .before .before .before .before .before .before .before .loop .inv) (t .0) (t .1) (c .skip .ensures)
 
 slice-write-table : tie.Need-slice-write-table Inv-loop μ-loop
 slice-write-table c = omega (arith, c .before .before .before .before .before .before .before .before .loop .inv .kept .size)
@@ -53,13 +64,13 @@ same-length-2 c =
 returns-2 : tie.Need-returns-2 Inv-loop μ-loop
 returns-2 c = filled-cut (c .before .before .before .before .before .before .before .before .loop .inv) (c .if4 .taken) (omega (arith, c .before .before .before .before .if2 .left))
 
-sub-t24 : tie.Need-sub-t24 Inv-loop μ-loop
-sub-t24 c = c .before .before .before .before .before .before .before .before .before .before .loop .inv .reached
+sub-gone : tie.Need-sub-gone Inv-loop μ-loop
+sub-gone c = c .before .before .before .before .before .before .before .before .before .loop .inv .reached
 
-add-t25 : tie.Need-add-t25 Inv-loop μ-loop
-add-t25 c =
-    let s = c .before .before .before .before .before .before .before .before .before .before .before .before .before .before .before in
-    omega (arith, c .before .before .before .before .before .before .before .before .before .if1 .taken, s .pre .1 .2, s .pre .1 .3)
+add-there : tie.Need-add-there Inv-loop μ-loop
+add-there c =
+    let s = c .before .before .before .before .before .before .before .before .before .before .before .before .before .before in
+    omega (arith, c .before .before .before .before .before .before .before .before .if1 .taken, s .pre .1 .2, s .pre .1 .3)
 
 insert-requires : tie.Need-insert-requires Inv-loop μ-loop
 insert-requires c κs =
@@ -71,30 +82,21 @@ insert-requires c κs =
     )
 
 add-i : tie.Need-add-i Inv-loop μ-loop
-add-i c = omega (arith, c .before .before .before .before .before .before .before .loop .inv .spot .bound, c .before .before .before .before .before .before .before .loop .inv .kept .few)
+add-i c =
+    let f = c .before .before .before .before .before .before .before .before .before .before .before .before .before .before .loop .inv in
+    omega (arith, f .spot .bound, f .kept .few)
 
-loop-less : tie.Need-loop-less Inv-loop μ-loop
-loop-less c =
-    let l = c .before .before .before .before .before .before .before .loop in
-    let h = c .before .before .before .before .before .if1 .taken in
-    let free = c .before .free-until .ensures in
-    let up : l .a < c .if3 .a =
-    ⊎-elim
-    (λ w. let t = free .taken (w .0 .taken) h in omega (arith, w .4, w .2 .ensures .1, l .inv .spot .after (t .0)))
-    (λ w. omega (arith, w .9, free .low, w .0 .left))
-    (c .if3 .came) in
-    omega (arith, up, h)
+loop-less-2 : tie.Need-loop-less-2 Inv-loop μ-loop
+loop-less-2 c =
+    let moved = c .before .before .before .before .before .before .before .if3 .left in
+    omega (arith, c .before .before .before .before .before .before .before .before .before .before .before .before .if1 .taken, c .before .before .before .before .before .before .before .before .free-until .ensures .low, moved)
 
-loop-again : tie.Need-loop-again Inv-loop μ-loop
-loop-again c =
-    let f = c .before .before .before .before .before .before .before .loop .inv in
-    let h = c .before .before .before .before .before .if1 .taken in
-    let free = c .before .free-until .ensures in
-    ⊎-elim
-    (λ w. let t = free .taken (w .0 .taken) h in filled-as (w .3) (w .4 ∙ w .2 .ensures .1) (filled-past f (t .0) (t .1)))
-    (λ w. filled-as (w .8) (w .9)
-    (filled-put f (c .before .free-until .result) _ (omega (arith, free .low, w .0 .left)) (free .high) (w .5 .ensures .0) (w .5 .ensures .1)))
-    (c .if3 .came)
+loop-again-2 : tie.Need-loop-again-2 Inv-loop μ-loop
+loop-again-2 c =
+    let f = c .before .before .before .before .before .before .before .before .before .before .before .before .before .before .loop .inv in
+    let stop = c .before .before .before .before .before .before .before .before .free-until in
+    let put = c .before .before .insert .ensures in
+    filled-put f (stop .result) _ (omega (arith, stop .ensures .low, c .before .before .before .before .before .before .before .if3 .left)) (stop .ensures .high) (put .0) (put .1)
 
 same-length-3 : tie.Need-same-length-3 Inv-loop μ-loop
 same-length-3 c = c .before .before .loop .inv .kept .size ∙ sym (c .before .before .before .before .before .before .pre .0 .size)
@@ -114,15 +116,17 @@ fill-spec =
     same-length
     returns
     free-until-requires
-    piece-at-requires
+    skip-requires
+    loop-less
+    loop-again
     slice-write-table
     same-length-2
     returns-2
-    sub-t24
-    add-t25
+    sub-gone
+    add-there
     insert-requires
     add-i
-    loop-less
-    loop-again
+    loop-less-2
+    loop-again-2
     same-length-3
     returns-3)

@@ -1,8 +1,9 @@
 -- `region_map::pieces::put_piece` meets its contract. Assumes nothing.
+use mathlib.Core.List.{[], _∷_}
 use Prim.Native.Nat.{_+_, _*_}
 use native.Mathlib.Omega.{arith}
 use lib.ListN.{length-set}
-use Rattle.region_map.proofs.PieceLaws.{words-put}
+use Rattle.map_records.proofs.StoreLaws.{stored}
 use borrow.Author.Needs.{needs}
 use Rattle.region_map.proofs.pieces.put_piece.Statement.{statement}
 use Rattle.region_map.proofs.pieces.put_piece.Tie as tie
@@ -17,7 +18,7 @@ mul-table : tie.Need-mul-table
 mul-table c = search needs
 
 slice-write-table : tie.Need-slice-write-table
-slice-write-table c = search needs
+slice-write-table c = omega arith
 
 add-table : tie.Need-add-table
 add-table c = search needs
@@ -50,7 +51,9 @@ same-length : tie.Need-same-length
 same-length c = simp length-set
 
 returns : tie.Need-returns
-returns c = words-put (c .args .table .now) (3 + 4 * c .args .i) (c .args .piece)
+returns c =
+    let a = c .args in
+    stored (a .table .now) (3 + 4 * a .i) (a .piece .first .0) (a .piece .end .0 ∷ a .piece .region ∷ a .piece .offset .0 ∷ [])
 
 pub put-piece-spec : {M : Type 1} → statement M
 put-piece-spec =

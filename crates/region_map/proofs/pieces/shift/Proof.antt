@@ -1,67 +1,64 @@
--- `region_map::pieces::shift` meets its contract. The loop's invariant: what is moved stands four words further on, and below that all is as it was. The measure is k. Assumes nothing.
+-- `region_map::pieces::shift` meets its contract. Assumes nothing.
+use mathlib.Core.Path.{_≡_}
+use Rattle.region_map.specs.Pieces.{pieceWords}
+use mathlib.Core.Path.{sym, subst, ap, _∙_}
+use mathlib.Core.List.{List}
+use Prim.Native.Nat.{ℕ, _-_}
+use lib.ListN.{length}
 use Prim.Native.Nat.{_+_, _*_, _≤_}
 use native.Mathlib.Omega.{arith}
-use Rattle.region_map.proofs.PieceLaws.{Moving, move-start, move-on, move-end}
+use Rattle.region_map.proofs.PieceLaws.{Moving, move-start, move-piece, move-end}
 use borrow.Author.Needs.{needs}
 use Rattle.region_map.proofs.pieces.shift.Statement.{statement}
 use Rattle.region_map.proofs.pieces.shift.Tie as tie
+use Rattle.region_map.proofs.pieces.piece_at.Reads as piece-at-reads
+use Rattle.region_map.proofs.pieces.put_piece.Reads as put-piece-reads
 
 abbrev Inv-loop : tie.InvT-loop
-Inv-loop table₀ i n low k₀ table k = (3 + 4 * i ≤ k) × (k ≤ 3 + 4 * n) × Moving table₀ k (3 + 4 * n) table
+Inv-loop table₀ i n k₀ table k = (i ≤ k) × (k ≤ n) × Moving table₀ (3 + 4 * k) (3 + 4 * n) table
 
 abbrev μ-loop : tie.MeasureT-loop
-μ-loop table₀ i n low k₀ table k = k
-
-mul-low : tie.Need-mul-low Inv-loop μ-loop
-mul-low c = search needs
-
-add-low : tie.Need-add-low Inv-loop μ-loop
-add-low c = search needs
-
-mul-k : tie.Need-mul-k Inv-loop μ-loop
-mul-k c = search needs
-
-add-k : tie.Need-add-k Inv-loop μ-loop
-add-k c = search needs
+μ-loop table₀ i n k₀ table k = k
 
 loop-holds : tie.Need-loop-holds Inv-loop μ-loop
-loop-holds c = (omega arith, omega arith, move-start (c .args .table .now) (3 + 4 * c .args .n))
+loop-holds c = (omega arith, omega arith, move-start (c .before .args .table .now) (3 + 4 * c .before .args .n))
 
 sub-k : tie.Need-sub-k Inv-loop μ-loop
 sub-k c = search needs
 
-mul-table : tie.Need-mul-table Inv-loop μ-loop
-mul-table c = search needs
+piece-at-requires : tie.Need-piece-at-requires Inv-loop μ-loop
+piece-at-requires c κs = (c .before .before .loop .inv .2 .size ∙ c .before .before .before .before .pre .0, omega (arith, c .before .before .before .before .pre .2, c .before .before .loop .inv .1))
 
-slice-read-table : tie.Need-slice-read-table Inv-loop μ-loop
-slice-read-table c = omega (arith, c .before .before .loop .inv .2 .size)
+add-put-piece : tie.Need-add-put-piece Inv-loop μ-loop
+add-put-piece c = search needs
 
-add-table : tie.Need-add-table Inv-loop μ-loop
-add-table c = search needs
-
-mul-table-2 : tie.Need-mul-table-2 Inv-loop μ-loop
-mul-table-2 c = search needs
-
-slice-write-table : tie.Need-slice-write-table Inv-loop μ-loop
-slice-write-table c = omega (arith, c .before .before .loop .inv .2 .size)
+put-piece-requires : tie.Need-put-piece-requires Inv-loop μ-loop
+put-piece-requires c κs = (c .before .before .before .before .loop .inv .2 .size ∙ c .before .before .before .before .before .before .pre .0, omega (arith, c .before .before .before .before .before .before .pre .2, c .before .before .before .before .loop .inv .1, c .before .before .before .loop-test .taken))
 
 loop-less : tie.Need-loop-less Inv-loop μ-loop
 loop-less c = search needs
 
 loop-again : tie.Need-loop-again Inv-loop μ-loop
 loop-again c =
-    let s = c .before .before .before in
-    let l = c .before .before .loop in
-    (omega arith, omega arith, move-on (s .args .table .now) (l .table) (l .k) (3 + 4 * s .args .n) (omega arith) (omega arith) (l .inv .2))
+    let s = c .before .before .before .before .before .before .before .before .before in
+    let l = c .before .before .before .before .before .before .before .loop in
+    let h = c .before .before .before .before .before .before .loop-test .taken in
+    let e : l .k ≡ l .k - 1 + 1 = omega (arith, h) in (
+      omega (arith, h),
+      omega (arith, h, l .inv .1),
+      subst (λ (x : List ℕ). Moving (s .args .table .now) (3 + 4 * (l .k - 1)) (3 + 4 * s .args .n) x) (sym (c .before .before .put-piece .ensures))
+          (move-piece (s .args .table .now) (l .table) (l .k - 1) (3 + 4 * s .args .n) (c .before .before .before .before .piece-at .result) (c .before .before .before .before .piece-at .ensures) (omega (arith, s .pre .0, s .pre .2, l .inv .1, h))
+          (subst (λ (x : ℕ). Moving (s .args .table .now) (3 + 4 * x) (3 + 4 * s .args .n) (l .table)) e (l .inv .2))),
+    )
 
 same-length : tie.Need-same-length Inv-loop μ-loop
 same-length c = c .before .loop .inv .2 .size
 
 returns : tie.Need-returns Inv-loop μ-loop
 returns c =
-    let s = c .before .before in
+    let s = c .before .before .before in
     let l = c .before .loop in
-    move-end (s .args .table .now) (l .table) (l .k) (s .args .i) (s .args .n) (omega arith) (l .inv .2) (omega arith)
+    move-end (s .args .table .now) (l .table) (3 + 4 * l .k) (s .args .i) (s .args .n) (omega (arith, c .loop-test .left)) (l .inv .2) (omega (arith, l .inv .0))
 
 pub shift-spec : {M : Type 1} → statement M
 shift-spec =
@@ -69,17 +66,11 @@ shift-spec =
     (tie.spec
     Inv-loop
     μ-loop
-    mul-low
-    add-low
-    mul-k
-    add-k
     loop-holds
     sub-k
-    mul-table
-    slice-read-table
-    add-table
-    mul-table-2
-    slice-write-table
+    piece-at-requires
+    add-put-piece
+    put-piece-requires
     loop-less
     loop-again
     same-length

@@ -4,7 +4,7 @@ use mathlib.Core.Logic.{⊎-elim}
 use native.Mathlib.Omega.{arith}
 use Rattle.region_map.specs.Walk.{walk, walkBelow, answer}
 use Rattle.region_map.specs.Pieces.{window, Behind}
-use Rattle.region_map.specs.Words.{treeOf}
+use Rattle.map_records.specs.Words.{mapOf}
 use Rattle.region_map.proofs.WalkLaws.{is-child, child-below}
 use Rattle.region_map.proofs.RenderLaws.{behind-at, behind-size, region-facts, nothing-there, some-there, not-reached, through-alias, through-children, the-node, no-node, child-then, child-begun, child-ahead, child-beyond}
 use Prim.Native.Nat.{ℕ, _+_, _-_, _*_, _<_}
@@ -19,7 +19,7 @@ use Rattle.region_map.proofs.render.+render+render_children.Lts-render_
 use Rattle.region_map.proofs.children.next_child.Reads as next-child-reads
 use Rattle.region_map.proofs.pieces.fill.Reads as fill-reads
 use Rattle.region_map.proofs.pieces.least.Reads as least-reads
-use Rattle.region_map.proofs.words.region_at.Reads as region-at-reads
+use Rattle.map_records.proofs.words.region_at.Reads as region-at-reads
 use Rattle.region_map.proofs.render.+render+render_children.{statement}
 use Rattle.region_map.proofs.render.+render+render_children.Tie.{close}
 
@@ -67,7 +67,7 @@ render-returns : (t : ℕ) → render-lts.Need-returns (render-calls t) (render-
 render-returns t c =
     let s = c .before .before .before .before .before .before .before in
     let a = s .args in
-    let m = treeOf (a .map .now) in
+    let m = mapOf (a .map .now) in
     let x = c .before .before .before .before .region-at in
     nothing-there m (a .n) (x .result) (x .ensures) _ (a .first .0) (a .offset .0) (a .end .0) (s .pre .1 .1 .0) (c .if1 .taken)
 
@@ -78,7 +78,7 @@ render-returns-2 : (t : ℕ) → render-lts.Need-returns-2 (render-calls t) (ren
 render-returns-2 t c =
     let s = c .before .before .before .before .before .before .before .before .before .before in
     let a = s .args in
-    not-reached (walk (treeOf (a .map .now)) (a .n)) _ (a .first .0) (a .offset .0) (a .end .0) (s .pre .1 .1 .0) (c .if2 .taken)
+    not-reached (walk (mapOf (a .map .now)) (a .n)) _ (a .first .0) (a .offset .0) (a .end .0) (s .pre .1 .1 .0) (c .if2 .taken)
 
 render-sub-least : (t : ℕ) → render-lts.Need-sub-least (render-calls t) (render-at t) render.Post
 render-sub-least t c =
@@ -111,7 +111,7 @@ render-add-t20 : (t : ℕ) → render-lts.Need-add-t20 (render-calls t) (render-
 render-add-t20 t c =
     let s = c .before .before .before .before .before .before .before .before .before .before .before .before .before .before .before .before .before .before .before .before in
     let a = s .args in
-    let m = treeOf (a .map .now) in
+    let m = mapOf (a .map .now) in
     let x = c .before .before .before .before .before .before .before .before .before .before .before .before .before .before .before .before .before .region-at in
     let h = some-there (x .result .size) (a .first .0) (a .offset .0) (a .end .0) (c .before .before .before .before .before .before .before .before .before .before .before .before .before .if1 .left) in
     let f = region-facts m (a .n) (x .result) (x .ensures) (s .pre .1 .0 .0 .walkable) (s .pre .1 .0 .1) in
@@ -121,7 +121,7 @@ render-render-requires : (t : ℕ) → render-lts.Need-render-requires (render-c
 render-render-requires t c κs =
     let s = c .before .before .before .before .before .before .before .before .before .before .before .before .before .before .before .before .before .before .before .before in
     let a = s .args in
-    let m = treeOf (a .map .now) in
+    let m = mapOf (a .map .now) in
     let x = c .before .before .before .before .before .before .before .before .before .before .before .before .before .before .before .before .before .region-at in
     let h = some-there (x .result .size) (a .first .0) (a .offset .0) (a .end .0) (c .before .before .before .before .before .before .before .before .before .before .before .before .before .if1 .left) in
     let f = region-facts m (a .n) (x .result) (x .ensures) (s .pre .1 .0 .0 .walkable) (s .pre .1 .0 .1) in
@@ -137,7 +137,7 @@ render-render-children-requires : (t : ℕ) → render-lts.Need-render-children-
 render-render-children-requires t c κs =
     let s = c .before .before .before .before .before .before .before .before .before .before .before .before .before .before .before .before .before .before in
     let a = s .args in
-    let m = treeOf (a .map .now) in
+    let m = mapOf (a .map .now) in
     let x = c .before .before .before .before .before .before .before .before .before .before .before .before .before .before .before .region-at in
     let h = some-there (x .result .size) (a .first .0) (a .offset .0) (a .end .0) (c .before .before .before .before .before .before .before .before .before .before .before .if1 .left) in
     let f = region-facts m (a .n) (x .result) (x .ensures) (s .pre .1 .0 .0 .walkable) (s .pre .1 .0 .1) in (
@@ -155,7 +155,7 @@ render-returns-3 : (t : ℕ) → render-lts.Need-returns-3 (render-calls t) (ren
 render-returns-3 t c =
     let s = c .before .before .before .before .before .before .before .before .before .before .before .before .before .before .before .before .before .before .before .before .before .before .before in
     let a = s .args in
-    let m = treeOf (a .map .now) in
+    let m = mapOf (a .map .now) in
     let x = c .before .before .before .before .before .before .before .before .before .before .before .before .before .before .before .before .before .before .before .before .region-at in
     let h = some-there (x .result .size) (a .first .0) (a .offset .0) (a .end .0) (c .before .before .before .before .before .before .before .before .before .before .before .before .before .before .before .before .if1 .left) in
     let l = c .before .before .before .before .before .before .before .before .before .least in
@@ -169,7 +169,7 @@ render-returns-4 : (t : ℕ) → render-lts.Need-returns-4 (render-calls t) (ren
 render-returns-4 t c =
     let s = c .before .before .before .before .before .before .before .before .before .before .before .before .before .before .before .before .before .before .before .before .before in
     let a = s .args in
-    let m = treeOf (a .map .now) in
+    let m = mapOf (a .map .now) in
     let x = c .before .before .before .before .before .before .before .before .before .before .before .before .before .before .before .before .before .before .region-at in
     let h = some-there (x .result .size) (a .first .0) (a .offset .0) (a .end .0) (c .before .before .before .before .before .before .before .before .before .before .before .before .before .before .if1 .left) in
     let l = c .before .before .before .before .before .before .before .least in
@@ -198,7 +198,7 @@ render-children-returns : (t : ℕ) → render-children-lts.Need-returns (childr
 render-children-returns t c =
     let s = c .before .before .before .before .before .before .before .before .before .before .before in
     let a = s .args in
-    let m = treeOf (a .map .now) in
+    let m = mapOf (a .map .now) in
     let x = c .before .before .before .before .before .before .region-at in
     the-node m (a .n) (a .below) _ (a .first .0) (a .offset .0) (a .end .0) (c .before .before .before .before .before .before .before .before .next-child .ensures) (x .result) (x .ensures) (c .before .before .before .before .before .before .before .if1 .taken) (c .before .before .before .before .if2 .taken) (c .before .before .fill .ensures)
 
@@ -206,7 +206,7 @@ render-children-returns-2 : (t : ℕ) → render-children-lts.Need-returns-2 (ch
 render-children-returns-2 t c =
     let s = c .before .before .before .before .before .before .before in
     let a = s .args in
-    let m = treeOf (a .map .now) in
+    let m = mapOf (a .map .now) in
     let x = c .before .before .region-at in
     no-node m (a .n) (a .below) _ (a .first .0) (a .offset .0) (a .end .0) (c .before .before .before .before .next-child .ensures) _ (x .result) (x .ensures) (s .pre .1 .1 .0) (c .before .before .before .if1 .taken) (c .if2 .left)
 
@@ -222,7 +222,7 @@ render-children-render-requires : (t : ℕ) → render-children-lts.Need-render-
 render-children-render-requires t c κs =
     let s = c .before .before .before .before .before .before .before .before .before in
     let a = s .args in
-    let m = treeOf (a .map .now) in
+    let m = mapOf (a .map .now) in
     let k = child-below m (a .n) _ (is-child m (a .n) (a .below) _ (c .before .before .before .before .before .before .next-child .ensures) (c .before .before .before .before .before .if1 .left)) in
     (omega (arith, k, s .pre .0), ((s .pre .1 .0 .0, omega (arith, k, s .pre .1 .0 .1)), (s .pre .1 .1 .0, (s .pre .1 .1 .1 .0, s .pre .1 .1 .1 .2, omega (arith, s .pre .1 .1 .1 .3)))))
 
@@ -241,7 +241,7 @@ render-children-render-requires-2 : (t : ℕ) → render-children-lts.Need-rende
 render-children-render-requires-2 t c κs =
     let s = c .before .before .before .before .before .before .before .before .before .before .before .before .before in
     let a = s .args in
-    let m = treeOf (a .map .now) in
+    let m = mapOf (a .map .now) in
     let k = child-below m (a .n) _ (is-child m (a .n) (a .below) _ (c .before .before .before .before .before .before .before .before .before .before .next-child .ensures) (c .before .before .before .before .before .before .before .before .before .if1 .left)) in
     (omega (arith, k, s .pre .0), ((s .pre .1 .0 .0, omega (arith, k, s .pre .1 .0 .1)), (s .pre .1 .1 .0, (omega (arith, s .pre .1 .1 .1 .0), s .pre .1 .1 .1 .2, omega arith))))
 
@@ -249,12 +249,12 @@ render-children-render-requires-2 t c κs =
 put : (t : ℕ) (c : render-children-lts.Joined3 (children-calls t) (render-children-at t) render-children.Post)
     → let a = c .before .before .before .before .before .before .before .args in
     Behind (a .table .now)
-    (window (answer (treeOf (a .map .now)) (walkBelow (treeOf (a .map .now)) (a .n)) (a .n) (c .before .before .before .before .next-child .result - 1)) (a .first .0) (a .offset .0) (a .end .0))
+    (window (answer (mapOf (a .map .now)) (walkBelow (mapOf (a .map .now)) (a .n)) (a .n) (c .before .before .before .before .next-child .result - 1)) (a .first .0) (a .offset .0) (a .end .0))
     (c .if3 .table)
 put t c =
     let s = c .before .before .before .before .before .before .before in
     let a = s .args in
-    let m = treeOf (a .map .now) in
+    let m = mapOf (a .map .now) in
     let x = c .before .before .region-at2 in
     let k = is-child m (a .n) (a .below) _ (c .before .before .before .before .next-child .ensures) (c .before .before .before .if1 .left) in
     ⊎-elim
@@ -278,7 +278,7 @@ render-children-returns-3 : (t : ℕ) → render-children-lts.Need-returns-3 (ch
 render-children-returns-3 t c =
     let s = c .before .before .before .before .before .before .before .before .before .before .before in
     let a = s .args in
-    let m = treeOf (a .map .now) in
+    let m = mapOf (a .map .now) in
     child-then m (a .n) (a .below) _ (a .first .0) (a .offset .0) (a .end .0) (c .before .before .before .before .before .before .before .before .next-child .ensures) (c .before .before .before .before .before .before .before .if1 .left) (put t (c .before .before .before .before)) (c .before .before .render-children .ensures)
 
 pub +render+render-children-spec : {M : Type 1} → statement M

@@ -1,24 +1,24 @@
 -- `region_map::resolve::resolve_address` meets its contract. Assumes nothing.
-use mathlib.Core.Path.{_≡_, sym, _∙_}
-use Prim.Native.Nat.{_<_}
+use Prim.Native.Nat.{ℕ, _-_}
+use mathlib.Core.Path.{_≡_, sym, ap, _∙_}
 use native.Mathlib.Omega.{arith}
-use lib.ListN.{length, length-map}
-use borrow.Author.Needs.{needs}
+use Rattle.map_records.specs.Words.{mapOf}
 use Rattle.region_map.specs.Check.{Accepted}
-use Rattle.region_map.proofs.Accepted.{is-accepted, accepted-sound, accepted-walkable}
+use Rattle.region_map.specs.Walk.{walk, walkRoot}
+use Rattle.region_map.proofs.Accepted.{is-accepted}
+use Rattle.region_map.proofs.MapWords.{accepted-words, accepted-tree, accepted-some}
 use Rattle.region_map.proofs.ResolveLaws.{led, not-led}
-use Rattle.region_map.proofs.TreeWords.{tree-of, root-in, walk-back}
+use borrow.Author.Needs.{needs}
 use Rattle.region_map.proofs.resolve.resolve_address.Statement.{statement}
 use Rattle.region_map.proofs.resolve.resolve_address.Tie as tie
+use Rattle.map_records.proofs.words.region_count.Reads as region-count-reads
+use Rattle.region_map.proofs.check.accepts.Reads as accepts-reads
+use Rattle.region_map.proofs.check.check_map.Reads as check-map-reads
+use Rattle.region_map.proofs.resolve.root_offset.Reads as root-offset-reads
+use Rattle.region_map.proofs.walk.walk.Reads as walk-reads
 
-full : (s : tie.Start) → length (s .args .map .regions) ≡ 32
-full s = simp length-map at (s .good .0 .1 .1 .1 .0 .1 .0 .1)
-
-ok : (c : tie.Then1) → Accepted (c .before .before .before .args .map) (c .before .before .before .args .memory-length)
+ok : (c : tie.Then1) → Accepted (mapOf (c .before .before .before .before .args .map .now)) (c .before .before .before .before .args .memory-length)
 ok c = is-accepted _ _ _ (c .before .before .check-map .ensures) (sym (c .before .accepts .ensures) ∙ c .if1 .taken)
-
-some : (c : tie.Then1) → 0 < c .before .before .before .args .map .count
-some c = accepted-sound _ _ (ok c) .some
 
 check-map-requires : tie.Need-check-map-requires
 check-map-requires c κs = search needs
@@ -26,30 +26,24 @@ check-map-requires c κs = search needs
 accepts-requires : tie.Need-accepts-requires
 accepts-requires c κs = search needs
 
+region-count-requires : tie.Need-region-count-requires
+region-count-requires c κs = accepted-words _ _ (ok c)
+
 sub-root : tie.Need-sub-root
-sub-root c = omega (arith, some (c .before))
-
-words-of-requires : tie.Need-words-of-requires
-words-of-requires c κs = tt
-
-slice-aggregate-walk : tie.Need-slice-aggregate-walk
-slice-aggregate-walk c = search needs
+sub-root c = omega (arith, accepted-some _ _ (ok (c .before)), c .region-count .ensures)
 
 root-offset-requires : tie.Need-root-offset-requires
 root-offset-requires c κs = tt
 
 walk-requires : tie.Need-walk-requires
-walk-requires c κs =
-    let t = c .before .before .before .before in
-    let m = c .before .before .before .before .before .before .before .args .map in
-    let w = c .before .before .words-of in
-    (tree-of m (full (c .before .before .before .before .before .before .before)) (w .result) (w .ensures) (accepted-walkable _ _ (ok t)), root-in m (full (c .before .before .before .before .before .before .before)) (w .result) (w .ensures) (some t))
+walk-requires c κs = (accepted-tree _ _ (ok (c .before .before)), omega (arith, accepted-some _ _ (ok (c .before .before)), c .before .region-count .ensures))
 
 returns : tie.Need-returns
+unfolding walkRoot
 returns c =
-    let w = c .before .before .before .words-of in
-    led _ _ _ _ (ok (c .before .before .before .before .before))
-    (walk-back (c .before .before .before .before .before .before .before .before .args .map) (full (c .before .before .before .before .before .before .before .before)) (w .result) (w .ensures) _ _ _ (c .walk .ensures) (c .before .root-offset .ensures))
+    let m = mapOf (c .before .before .before .before .before .before .before .args .map .now) in
+    let k : c .before .before .region-count .result - 1 ≡ mapOf (c .before .before .before .before .before .before .before .args .map .now) .count - 1 = omega (arith, c .before .before .region-count .ensures) in
+    led _ _ _ _ (ok (c .before .before .before)) (c .walk .ensures ∙ ap (λ (n : ℕ). walk m n (c .before .root-offset .result .0)) k ∙ ap (walk m (m .count - 1)) (c .before .root-offset .ensures))
 
 returns-2 : tie.Need-returns-2
 returns-2 c = not-led _ _ _ _ (c .before .before .check-map .ensures) (sym (c .before .accepts .ensures) ∙ c .if1 .left)
@@ -60,9 +54,8 @@ resolve-address-spec =
     (tie.spec
     check-map-requires
     accepts-requires
+    region-count-requires
     sub-root
-    words-of-requires
-    slice-aggregate-walk
     root-offset-requires
     walk-requires
     returns

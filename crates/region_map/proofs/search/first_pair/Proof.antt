@@ -8,21 +8,25 @@ use native.Mathlib.Omega.{arith}
 use Prim.Native.Nat.{ℕ, _+_, _-_, _≤_, _<_}
 use mathlib.Core.Bool.{true, false}
 use mathlib.Core.Path.{_≡_, sym, _∙_, subst⁻¹}
+use Rattle.map_records.specs.Words.{mapOf}
 use borrow.Author.Needs.{needs}
 use Rattle.region_map.proofs.search.first_pair.Statement.{statement}
 use Rattle.region_map.proofs.search.first_pair.Tie as tie
 
 abbrev Inv-loop : tie.InvT-loop
-Inv-loop map rule count found₀ i j₀ found j = (found ≡ Nothing) × (i < j) × (j ≤ count) × ((b : ℕ) → b < j → i < b → clash rule map i b ≡ false)
+Inv-loop map rule count found₀ i j₀ found j = (found ≡ Nothing) × (i < j) × (j ≤ count) × ((b : ℕ) → b < j → i < b → clash rule (mapOf map) i b ≡ false)
 
 abbrev μ-loop : tie.MeasureT-loop
 μ-loop map rule count found₀ i j₀ found j = count - j
 
 abbrev Inv-search : tie.InvT-search
-Inv-search map rule count found₀ i₀ found i = (found ≡ Nothing) × (i ≤ count) × ((a : ℕ) → a < i → (b : ℕ) → b < count → a < b → clash rule map a b ≡ false)
+Inv-search map rule count found₀ i₀ found i = (found ≡ Nothing) × (i ≤ count) × ((a : ℕ) → a < i → (b : ℕ) → b < count → a < b → clash rule (mapOf map) a b ≡ false)
 
 abbrev μ-search : tie.MeasureT-search
 μ-search map rule count found₀ i₀ found i = count - i
+
+region-count-requires : tie.Need-region-count-requires Inv-loop μ-loop Inv-search μ-search
+region-count-requires c κs = c .before .pre .words
 
 search-holds : tie.Need-search-holds Inv-loop μ-loop Inv-search μ-search
 search-holds c = (search needs, search needs, below-none _)
@@ -34,7 +38,8 @@ loop-holds : tie.Need-loop-holds Inv-loop μ-loop Inv-search μ-search
 loop-holds c = (c .before .search .inv .0, omega arith, omega arith, λ b p q. absurd (omega arith))
 
 clashes-requires : tie.Need-clashes-requires Inv-loop μ-loop Inv-search μ-search
-clashes-requires c κs = search needs
+clashes-requires c κs =
+    (c .before .before .before .before .before .before .pre .words, omega (arith, c .before .before .search-test .taken, c .before .before .before .before .before .before .pre .few, c .before .before .before .before .region-count .ensures), omega (arith, c .loop-test .taken, c .before .before .before .before .before .before .pre .few, c .before .before .before .before .region-count .ensures))
 
 add-j-2 : tie.Need-add-j-2 Inv-loop μ-loop Inv-search μ-search
 add-j-2 c = search needs
@@ -55,10 +60,13 @@ search-again : tie.Need-search-again Inv-loop μ-loop Inv-search μ-search
 search-again c = let s = c .before .before .before .search in (c .before .loop .inv .0, omega arith, below-more _ _ (s .inv .2) (λ b p q. c .before .loop .inv .3 b (omega arith) q))
 
 returns : tie.Need-returns Inv-loop μ-loop Inv-search μ-search
-returns c = subst⁻¹ (FirstIs _ _) (c .before .search .inv .0) (λ k. pair-none _ k _ (λ i p. c .before .search .inv .2 i (omega arith)))
+returns c = subst⁻¹ (FirstIs _ _) (c .before .search .inv .0) (λ k. pair-none _ k _ (λ i p b q r. c .before .search .inv .2 i (omega (arith, p, c .before .before .region-count .ensures)) b (omega (arith, q, c .before .before .region-count .ensures)) r))
 
 returns-2 : tie.Need-returns-2 Inv-loop μ-loop Inv-search μ-search
-returns-2 c = let l = c .before .before .before .loop in λ k. pair-at _ k _ _ _ (l .inv .1) (c .before .before .loop-test .taken) (c .before .before .before .before .before .search .inv .2) (l .inv .3) (sym (c .before .clashes .ensures) ∙ c .if1 .taken)
+returns-2 c =
+    let l = c .before .before .before .loop in
+    let n = c .before .before .before .before .before .before .region-count .ensures in
+    λ k. pair-at _ k _ _ _ (l .inv .1) (omega (arith, c .before .before .loop-test .taken, n)) (λ a p b q. c .before .before .before .before .before .search .inv .2 a p b (omega (arith, q, n))) (l .inv .3) (sym (c .before .clashes .ensures) ∙ c .if1 .taken)
 
 pub first-pair-spec : {M : Type 1} → statement M
 first-pair-spec =
@@ -68,6 +76,7 @@ first-pair-spec =
     μ-loop
     Inv-search
     μ-search
+    region-count-requires
     search-holds
     add-j
     loop-holds

@@ -1,15 +1,26 @@
 -- `region_map::view::flatten` meets its contract. Assumes nothing.
-use Rattle.region_map.proofs.ViewLaws.{made-full, made-list, flat-made, flat-refused}
-use Rattle.region_map.proofs.Accepted.{is-accepted, passed-reply, accepted-sound, accepted-walkable}
+use mathlib.Core.Path.{_≡_, refl, sym, ap, subst, _∙_}
+use mathlib.Core.Bool.{Bool, true, false}
+use mathlib.Core.List.{List}
+use Prim.Native.Nat.{ℕ}
+use lib.ListN.{length, replicate, length-replicate}
+use Rattle.map_records.specs.Words.{mapOf}
 use Rattle.region_map.specs.Check.{reply, Accepted}
-use lib.ListN.{length, length-map}
-use mathlib.Core.Path.{_≡_, refl, sym, ap, _∙_}
+use Rattle.region_map.specs.Flatten.{Made, flatList, Grows, flattenedInto}
+use Rattle.region_map.proofs.Accepted.{is-accepted, passed-reply}
+use Rattle.region_map.proofs.MapWords.{accepted-tree, accepted-some}
+use Rattle.region_map.proofs.ViewWords.{none-yet, none-blank, into-other, into-full, into-made, into-refused}
 use borrow.Author.Needs.{needs}
 use Rattle.region_map.proofs.view.flatten.Statement.{statement}
 use Rattle.region_map.proofs.view.flatten.Tie as tie
 
-ok : (c : tie.Then1) → Accepted (c .before .before .before .args .map) (c .before .before .before .args .memory-length)
-ok c = is-accepted _ _ _ (c .before .before .check-map .ensures) (sym (c .before .accepts .ensures) ∙ c .if1 .taken)
+ok : (c : tie.Then2) → Accepted (mapOf (c .before .before .before .before .before .before .args .map .now)) (c .before .before .before .before .before .before .args .memory-length)
+ok c = is-accepted _ _ _ (c .before .before .check-map .ensures) (sym (c .before .accepts .ensures) ∙ c .if2 .taken)
+
+returns : tie.Need-returns
+returns c =
+    let e = into-other (mapOf (c .before .before .before .args .map .now)) (c .before .before .before .args .memory-length) (c .before .before .before .args .view .now) (c .if1 .taken) in
+    (sym (ap (λ (m : Made). m .reply) e), sym (ap (λ (m : Made). m .words) e))
 
 check-map-requires : tie.Need-check-map-requires
 check-map-requires c κs = search needs
@@ -17,36 +28,54 @@ check-map-requires c κs = search needs
 accepts-requires : tie.Need-accepts-requires
 accepts-requires c κs = search needs
 
+slice-aggregate-sweep : tie.Need-slice-aggregate-sweep
+slice-aggregate-sweep c = search needs
+
 sweep-requires : tie.Need-sweep-requires
-sweep-requires c κs = (accepted-walkable _ _ (ok c), accepted-sound _ _ (ok c) .some)
-
-empty-view-requires : tie.Need-empty-view-requires
-empty-view-requires c κs = search needs
-
-returns : tie.Need-returns
-returns c = flat-made _ _ _ (ok (c .before .before .before)) (made-full _ _ _ (c .before .before .sweep .ensures .0) (c .before .if2 .taken) (c .empty-view .ensures))
+sweep-requires c κs = ((accepted-tree _ _ (ok (c .before)), accepted-some _ _ (ok (c .before))), (length-replicate {A = ℕ} 1537 0, none-yet))
 
 returns-2 : tie.Need-returns-2
-returns-2 c = let s = c .before .before in
-    let whole : length (s .sweep .result .view .ranges) ≡ 256 = simp length-map at (s .sweep .ok .1 .1 .1 .0 .1 .1 .1 .0 .1 .0 .1) in
-    let passed = passed-reply (reply (s .before .before .before .check-map .result)) (sym (s .before .before .accepts .ensures) ∙ s .before .if1 .taken) in
-    rw passed (flat-made _ _ _ (ok (s .before)) (made-list _ _ (s .sweep .ensures .0) (c .before .if2 .left) whole (s .sweep .ensures .1)))
+returns-2 c =
+    let m = mapOf (c .before .before .before .before .before .before .before .before .before .before .args .map .now) in
+    let e =
+    into-full m (c .before .before .before .before .before .before .before .before .before .before .args .memory-length) (c .before .before .before .before .before .before .before .before .before .before .args .view .now) (c .before .before .before .before .before .before .before .if1 .left) (ok (c .before .before .before .before))
+    (subst (λ (b : Bool). Grows (flatList m) (replicate 1537 0) b (c .before .before .sweep .last .1 .0)) (c .if3 .taken) (c .before .before .sweep .ensures)) in
+    (sym (ap (λ (x : Made). x .reply) e), sym (ap (λ (x : Made). x .words) e))
 
-empty-view-requires-2 : tie.Need-empty-view-requires-2
-empty-view-requires-2 c κs = search needs
+slice-aggregate-copy-words : tie.Need-slice-aggregate-copy-words
+slice-aggregate-copy-words c = sym (c .before .before .before .before .sweep .ensures .words)
+
+copy-words-requires : tie.Need-copy-words-requires
+copy-words-requires c κs = c .before .before .before .before .before .before .before .before .before .if1 .left ∙ sym (c .before .before .before .before .sweep .ensures .words)
+
+same-length : tie.Need-same-length
+same-length c = ap length (c .before .before .copy-words .ensures) ∙ c .before .before .before .before .before .before .before .sweep .ensures .words ∙ sym (c .before .before .before .before .before .before .before .before .before .before .before .before .if1 .left)
 
 returns-3 : tie.Need-returns-3
-returns-3 c = flat-refused _ _ _ _ (c .before .before .before .check-map .ensures) (sym (c .before .before .accepts .ensures) ∙ c .before .if1 .left) (c .empty-view2 .ensures)
+returns-3 c =
+    let m = mapOf (c .before .before .before .before .before .before .before .before .before .before .before .before .before .before .before .args .map .now) in
+    let e =
+    into-made m (c .before .before .before .before .before .before .before .before .before .before .before .before .before .before .before .args .memory-length) (c .before .before .before .before .before .before .before .before .before .before .before .before .before .before .before .args .view .now) (c .before .before .before .before .before .before .before .before .before .before .before .before .if1 .left) (ok (c .before .before .before .before .before .before .before .before .before)) (replicate 1537 0) (c .before .before .before .before .before .before .before .sweep .last .1 .0) none-blank
+    (subst (λ (b : Bool). Grows (flatList m) (replicate 1537 0) b (c .before .before .before .before .before .before .before .sweep .last .1 .0)) (c .before .before .before .before .before .if3 .left) (c .before .before .before .before .before .before .before .sweep .ensures)) in
+    (passed-reply (reply (c .before .before .before .before .before .before .before .before .before .before .before .check-map .result)) (sym (c .before .before .before .before .before .before .before .before .before .before .accepts .ensures) ∙ c .before .before .before .before .before .before .before .before .before .if2 .taken) ∙ sym (ap (λ (x : Made). x .reply) e), c .before .before .copy-words .ensures ∙ sym (ap (λ (x : Made). x .words) e))
+
+returns-4 : tie.Need-returns-4
+returns-4 c =
+    let e = into-refused (mapOf (c .before .before .before .before .before .before .args .map .now)) (c .before .before .before .before .before .before .args .memory-length) (c .before .before .before .before .before .before .args .view .now) (c .before .before .before .if1 .left) _ (c .before .before .check-map .ensures) (sym (c .before .accepts .ensures) ∙ c .if2 .left) in
+    (sym (ap (λ (m : Made). m .reply) e), sym (ap (λ (m : Made). m .words) e))
 
 pub flatten-spec : {M : Type 1} → statement M
 flatten-spec =
     tie.close
     (tie.spec
+    returns
     check-map-requires
     accepts-requires
+    slice-aggregate-sweep
     sweep-requires
-    empty-view-requires
-    returns
     returns-2
-    empty-view-requires-2
-    returns-3)
+    slice-aggregate-copy-words
+    copy-words-requires
+    same-length
+    returns-3
+    returns-4)

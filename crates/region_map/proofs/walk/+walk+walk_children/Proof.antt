@@ -1,9 +1,9 @@
 -- `region_map::walk::walk` and `walk_children` meet their contracts, as one cycle of calls: the measure is the region number and the children left. Assumes nothing.
 use mathlib.Core.Path.{sym, ap, _∙_}
 use native.Mathlib.Omega.{arith}
-use Rattle.region_map.specs.declared.map.Region.{Region}
+use Rattle.map_records.specs.declared.map.Region.{Region}
 use Rattle.region_map.specs.Walk.{walk as walkOf}
-use Rattle.region_map.specs.Words.{treeOf}
+use Rattle.map_records.specs.Words.{mapOf}
 use Rattle.region_map.proofs.WalkLaws.{child-below, past, child-at, child-before, own-is, own-none, walk-alias, walk-inside, is-child, tried-none, tried-next}
 use borrow.Author.Needs.{needs}
 use Prim.Native.Nat.{ℕ, _+_, _-_, _*_, _%_, _<_}
@@ -16,7 +16,7 @@ use Rattle.region_map.proofs.walk.walk_children.Reads as walk-children
 use Rattle.region_map.proofs.walk.walk_children.Kinds as walk-children-kinds
 use Rattle.region_map.proofs.walk.+walk+walk_children.Lts-walk_children as walk-children-lts
 use Rattle.region_map.proofs.children.next_child.Reads as next-child-reads
-use Rattle.region_map.proofs.words.region_at.Reads as region-at-reads
+use Rattle.map_records.proofs.words.region_at.Reads as region-at-reads
 use Rattle.region_map.proofs.walk.+walk+walk_children.{statement}
 use Rattle.region_map.proofs.walk.+walk+walk_children.Tie.{close}
 
@@ -58,7 +58,7 @@ walk-returns : (t : ℕ) → walk-lts.Need-returns (walk-calls t) (walk-at t) wa
 walk-returns t c =
     let a = c .before .before .before .before .args in
     let size = ap (λ (r : Region). r .size) (c .before .before .region-at .ensures) in
-    sym (past (treeOf (a .map .now)) (a .n) (a .at .0) (omega (arith, size, c .if1 .taken)))
+    sym (past (mapOf (a .map .now)) (a .n) (a .at .0) (omega (arith, size, c .if1 .taken)))
 
 walk-add-t7 : (t : ℕ) → walk-lts.Need-add-t7 (walk-calls t) (walk-at t) walk.Post
 walk-add-t7 t c =
@@ -80,7 +80,7 @@ walk-returns-2 : (t : ℕ) → walk-lts.Need-returns-2 (walk-calls t) (walk-at t
 walk-returns-2 t c =
     let s = c .before .before .before .before .before .before .before .before in
     let a = s .args in
-    let m = treeOf (a .map .now) in
+    let m = mapOf (a .map .now) in
     let e = c .before .before .before .before .before .before .region-at .ensures in
     let kind = ap (λ (r : Region). r .kind) e in
     let size = ap (λ (r : Region). r .size) e in
@@ -94,7 +94,7 @@ walk-walk-children-requires t c κs =
 walk-returns-3 : (t : ℕ) → walk-lts.Need-returns-3 (walk-calls t) (walk-at t) walk.Post
 walk-returns-3 t c =
     let a = c .before .before .before .before .before .before .before .args in
-    let m = treeOf (a .map .now) in
+    let m = mapOf (a .map .now) in
     let e = c .before .before .before .before .before .region-at .ensures in
     let kind = ap (λ (r : Region). r .kind) e in
     let size = ap (λ (r : Region). r .size) e in
@@ -111,14 +111,14 @@ walk-children-region-at-requires t c κs =
 walk-children-returns : (t : ℕ) → walk-children-lts.Need-returns (children-calls t) (walk-children-at t) walk-children.Post
 walk-children-returns t c =
     let a = c .before .before .before .before .before .before .args in
-    let m = treeOf (a .map .now) in
+    let m = mapOf (a .map .now) in
     let kind = ap (λ (r : Region). r .kind) (c .before .before .region-at .ensures) in
     sym (tried-none m _ (a .n) (a .below) _ (c .before .before .before .before .next-child .ensures) (c .before .before .before .if1 .taken) (a .at .0) ∙ own-none m (a .n) (sym kind ∙ c .if2 .taken) (a .at .0))
 
 walk-children-returns-2 : (t : ℕ) → walk-children-lts.Need-returns-2 (children-calls t) (walk-children-at t) walk-children.Post
 walk-children-returns-2 t c =
     let a = c .before .before .before .before .before .before .args in
-    let m = treeOf (a .map .now) in
+    let m = mapOf (a .map .now) in
     let kind = ap (λ (r : Region). r .kind) (c .before .before .region-at .ensures) in
     sym (tried-none m _ (a .n) (a .below) _ (c .before .before .before .before .next-child .ensures) (c .before .before .before .if1 .taken) (a .at .0) ∙ own-is m (a .n) (λ k. c .if2 .left (kind ∙ k)) (a .at .0))
 
@@ -136,7 +136,7 @@ walk-children-walk-children-requires t c κs =
 walk-children-returns-3 : (t : ℕ) → walk-children-lts.Need-returns-3 (children-calls t) (walk-children-at t) walk-children.Post
 walk-children-returns-3 t c =
     let a = c .before .before .before .before .before .before .before .args in
-    let m = treeOf (a .map .now) in
+    let m = mapOf (a .map .now) in
     let nc = c .before .before .before .before .before .next-child .ensures in
     let left = c .before .before .before .before .if1 .left in
     let offset = ap (λ (r : Region). r .offset) (c .before .before .before .region-at2 .ensures) in
@@ -147,7 +147,7 @@ walk-children-walk-requires : (t : ℕ) → walk-children-lts.Need-walk-requires
 walk-children-walk-requires t c κs =
     let s = c .before .before .before .before .before .before .before in
     let a = s .args in
-    let m = treeOf (a .map .now) in
+    let m = mapOf (a .map .now) in
     let k = child-below m (a .n) _ (is-child m (a .n) (a .below) _ (c .before .before .before .before .before .next-child .ensures) (c .before .before .before .before .if1 .left)) in
     (omega (arith, k, s .pre .0), (s .pre .1 .0, omega (arith, k, s .pre .1 .1)))
 
@@ -166,7 +166,7 @@ walk-children-returns-4 : (t : ℕ) → walk-children-lts.Need-returns-4 (childr
 walk-children-returns-4 t c =
     let w = c .before .before in
     let a = w .before .before .before .before .before .before .before .before .args in
-    let m = treeOf (a .map .now) in
+    let m = mapOf (a .map .now) in
     let nc = w .before .before .before .before .before .before .next-child .ensures in
     let left = w .before .before .before .before .before .if1 .left in
     let child = w .before .before .before .before .region-at2 .ensures in
@@ -179,7 +179,7 @@ walk-children-returns-5 : (t : ℕ) → walk-children-lts.Need-returns-5 (childr
 walk-children-returns-5 t c =
     let w = c .before .before .before in
     let a = w .before .before .before .before .before .before .before .before .args in
-    let m = treeOf (a .map .now) in
+    let m = mapOf (a .map .now) in
     let nc = w .before .before .before .before .before .before .next-child .ensures in
     let left = w .before .before .before .before .before .if1 .left in
     let child = w .before .before .before .before .region-at2 .ensures in

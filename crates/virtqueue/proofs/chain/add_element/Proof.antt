@@ -1,52 +1,105 @@
 -- `virtqueue::chain::add_element` meets its contract. Assumes nothing.
-use mathlib.Core.Path.{sym, _∙_}
+use mathlib.Core.Path.{refl, sym, ap, _∙_}
+use mathlib.Core.Bool.{true, false}
+use mathlib.Core.List.{List}
+use Prim.Native.Nat.{ℕ, _+_, _-_}
 use native.Mathlib.Omega.{arith}
-use Rattle.virtqueue.specs.Words.{viewOf}
-use Rattle.virtqueue.proofs.GuestLaws.{memory-front}
-use Rattle.virtqueue.proofs.ChainLaws.{added-written, added-read}
+use lib.ListN.{drop, length-take}
+use Rattle.map_records.specs.Words.{viewOf}
+use Rattle.guest_view.specs.Guest.{byteAt}
+use Rattle.guest_view.specs.Contracts.{placeIn}
+use Rattle.guest_view.proofs.GuestLaws.{memory-front}
+use Rattle.virtqueue.specs.Contracts.{gotOf}
+use Rattle.virtqueue.proofs.ChainLaws.{added-written, added-read, stretch-stored}
+use borrow.Author.Needs.{needs}
 use Rattle.virtqueue.proofs.chain.add_element.Statement.{statement}
 use Rattle.virtqueue.proofs.chain.add_element.Tie as tie
 
 is-writable-requires : tie.Need-is-writable-requires
-is-writable-requires c κs = tt
+is-writable-requires c κs = search needs
 
 sub-smaller : tie.Need-sub-smaller
-sub-smaller c = c .before .before .before .before .before .before .before .pre .1 .1 .1 .1
+sub-smaller c = search needs
 
 smaller-requires : tie.Need-smaller-requires
-smaller-requires c κs = tt
+smaller-requires c κs = search needs
 
-copy-places-requires : tie.Need-copy-places-requires
-copy-places-requires c κs =
-    let s = c .before .before .before .before .before .before .before .before in
-    (s .pre .0, (memory-front (viewOf (s .args .view .now)) (s .args .d .addr .0) (s .args .d .length) (c .smaller .result) (s .pre .1 .1 .0) (omega (arith, c .smaller .ensures)), omega (arith, c .smaller .ensures, s .pre .1 .1 .1)))
+add-end : tie.Need-add-end
+add-end c = search needs
 
-add-t13 : tie.Need-add-t13
-add-t13 c = let s = c .before .before .before .before .before .before .before .before .before .before in omega (arith, c .before .before .smaller .ensures, s .pre .1 .1 .1)
+mul-find-places : tie.Need-mul-find-places
+mul-find-places c = search needs
+
+sub-find-places : tie.Need-sub-find-places
+sub-find-places c = search needs
+
+part-find-places-start : tie.Need-part-find-places-start
+part-find-places-start c = search needs
+
+part-find-places-end : tie.Need-part-find-places-end
+part-find-places-end c = search needs
+
+find-places-requires : tie.Need-find-places-requires
+find-places-requires c κs = let s = c .before .before .before .before .before .before .before .before in
+    let w = s .args .so-far .writable in
+    let n = c .before .smaller .result in
+    (s .pre .0, memory-front (viewOf (s .args .view .now)) (s .args .d .addr .0) (s .args .d .length) _ (s .pre .1 .1 .0) (omega (arith, c .before .smaller .ensures, length-take (w + n - w) (drop w (s .args .places .now)))))
+
+same-length : tie.Need-same-length
+same-length c = search needs
 
 returns : tie.Need-returns
-returns c =
-    let s = c .before .before .before .before .before .before .before .before .before .before in
-    added-written _ _ (s .args .so-far) (s .args .d) (c .before .before .smaller .result) (c .before .copy-places .result) (sym (c .before .before .before .before .before .is-writable .ensures) ∙ c .before .before .before .before .if1 .taken) (c .before .before .smaller .ensures) (c .before .copy-places .ensures)
+returns c = let s = c .before .before .before .before .before .before .before .before .before .before .before in
+    let a = s .args in
+    let w = a .so-far .writable in
+    let n = c .before .before .before .before .smaller .result in
+    let f = s .pre .1 .1 .1 in
+    let e = c .before .before .before .before .smaller .ensures in (
+      ap (λ (z : List ℕ). gotOf (record { stop = 0; readable = a .so-far .readable; writable = w + n; late = true }) (a .request .now) z)
+          (stretch-stored (placeIn (viewOf (a .view .now))) (a .places .now) _ (a .d .addr .0) w (w + n - w) n (omega arith) (omega (arith, e, f .«few-written», f .«all-written»)) (c .before .before .find-places .ensures))
+          ∙ added-written (placeIn (viewOf (a .view .now))) (a .mem .now) (gotOf (a .so-far) (a .request .now) (a .places .now)) (a .d) (sym (c .before .before .before .before .before .before .is-writable .ensures) ∙ c .before .before .before .before .before .if1 .taken) n e,
+      refl,
+    )
 
 sub-smaller-2 : tie.Need-sub-smaller-2
-sub-smaller-2 c = c .before .before .before .before .before .before .before .pre .1 .1 .1 .0
+sub-smaller-2 c = search needs
 
 smaller-requires-2 : tie.Need-smaller-requires-2
-smaller-requires-2 c κs = tt
+smaller-requires-2 c κs = search needs
 
-copy-bytes-requires : tie.Need-copy-bytes-requires
-copy-bytes-requires c κs =
-    let s = c .before .before .before .before .before .before .before .before in
-    (s .pre .0, (s .pre .1 .0, (memory-front (viewOf (s .args .view .now)) (s .args .d .addr .0) (s .args .d .length) (c .smaller2 .result) (s .pre .1 .1 .0) (omega (arith, c .smaller2 .ensures)), omega (arith, c .smaller2 .ensures, s .pre .1 .1 .1))))
+add-end-2 : tie.Need-add-end-2
+add-end-2 c = search needs
 
-add-t14 : tie.Need-add-t14
-add-t14 c = let s = c .before .before .before .before .before .before .before .before .before .before in omega (arith, c .before .before .smaller2 .ensures, s .pre .1 .1 .1)
+sub-read-bytes : tie.Need-sub-read-bytes
+sub-read-bytes c = search needs
+
+part-read-bytes-start : tie.Need-part-read-bytes-start
+part-read-bytes-start c = search needs
+
+part-read-bytes-end : tie.Need-part-read-bytes-end
+part-read-bytes-end c = search needs
+
+read-bytes-requires : tie.Need-read-bytes-requires
+read-bytes-requires c κs = let s = c .before .before .before .before .before .before .before .before in
+    let w = s .args .so-far .readable in
+    let n = c .before .smaller2 .result in
+    (s .pre .0, (s .pre .1 .0, memory-front (viewOf (s .args .view .now)) (s .args .d .addr .0) (s .args .d .length) _ (s .pre .1 .1 .0) (omega (arith, c .before .smaller2 .ensures, length-take (w + n - w) (drop w (s .args .request .now))))))
+
+same-length-2 : tie.Need-same-length-2
+same-length-2 c = search needs
 
 returns-2 : tie.Need-returns-2
-returns-2 c =
-    let s = c .before .before .before .before .before .before .before .before .before .before in
-    added-read _ _ (s .args .so-far) (s .args .d) (c .before .before .smaller2 .result) (c .before .copy-bytes .result) (sym (c .before .before .before .before .before .is-writable .ensures) ∙ c .before .before .before .before .if1 .left) (c .before .before .smaller2 .ensures) (c .before .copy-bytes .ensures)
+returns-2 c = let s = c .before .before .before .before .before .before .before .before .before .before .before in
+    let a = s .args in
+    let w = a .so-far .readable in
+    let n = c .before .before .before .before .smaller2 .result in
+    let f = s .pre .1 .1 .1 in
+    let e = c .before .before .before .before .smaller2 .ensures in (
+      ap (λ (z : List ℕ). gotOf (record { stop = 0; readable = w + n; writable = a .so-far .writable; late = false }) z (a .places .now))
+          (stretch-stored (byteAt (placeIn (viewOf (a .view .now))) (a .mem .now)) (a .request .now) _ (a .d .addr .0) w (w + n - w) n (omega arith) (omega (arith, e, f .«few-read», f .«all-read»)) (c .before .before .read-bytes .ensures))
+          ∙ added-read (placeIn (viewOf (a .view .now))) (a .mem .now) (gotOf (a .so-far) (a .request .now) (a .places .now)) (a .d) (sym (c .before .before .before .before .before .before .is-writable .ensures) ∙ c .before .before .before .before .before .if1 .left) n e,
+      refl,
+    )
 
 pub add-element-spec : {M : Type 1} → statement M
 add-element-spec =
@@ -55,11 +108,20 @@ add-element-spec =
     is-writable-requires
     sub-smaller
     smaller-requires
-    copy-places-requires
-    add-t13
+    add-end
+    mul-find-places
+    sub-find-places
+    part-find-places-start
+    part-find-places-end
+    find-places-requires
+    same-length
     returns
     sub-smaller-2
     smaller-requires-2
-    copy-bytes-requires
-    add-t14
+    add-end-2
+    sub-read-bytes
+    part-read-bytes-start
+    part-read-bytes-end
+    read-bytes-requires
+    same-length-2
     returns-2)

@@ -3,7 +3,7 @@ use mathlib.Core.Path.{sym}
 use Prim.Native.Nat.{_+_}
 use native.Mathlib.Omega.{arith}
 use borrow.Author.Tests.{lt-leb}
-use Rattle.memory_device.proofs.RuleLaws as rules
+use Rattle.device_words.proofs.RuleLaws as rules
 use Rattle.virtqueue.proofs.queue.sum_within.Statement.{statement}
 use Rattle.virtqueue.proofs.queue.sum_within.Tie as tie
 

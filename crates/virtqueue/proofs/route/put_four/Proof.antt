@@ -3,7 +3,7 @@ use mathlib.Core.List.{[], _∷_}
 use native.Mathlib.Omega.{arith}
 use lib.ListN.{length-set}
 use borrow.Author.Needs.{needs}
-use Rattle.region_map.proofs.StoreLaws.{stored}
+use Rattle.map_records.proofs.StoreLaws.{stored}
 use Rattle.virtqueue.proofs.route.put_four.Statement.{statement}
 use Rattle.virtqueue.proofs.route.put_four.Tie as tie
 

@@ -1,48 +1,76 @@
 -- `virtqueue::route::route_all` meets its contract. Assumes nothing.
-use mathlib.Core.Path.{sym, ap, ap₂, _∙_}
-use mathlib.Core.Bool.{_&&_}
 use native.Mathlib.Omega.{arith}
 use borrow.Author.Needs.{needs}
+use mathlib.Core.Path.{_≡_, sym, ap, ap₂, _∙_}
+use mathlib.Core.Bool.{Bool, true, false, _&&_}
 use Rattle.region_map.proofs.Bools.{and-fst, and-snd}
-use Rattle.memory_device.proofs.RuleLaws.{device-valid}
-use Rattle.memory_device.specs.Device.{deviceOk}
-use Rattle.virtqueue.specs.View.{viewOk}
-use Rattle.virtqueue.specs.Words.{viewOf}
+use Rattle.device_words.specs.Device.{deviceOk}
+use Rattle.device_words.specs.Words.{deviceOf}
+use Rattle.device_words.proofs.DeviceWords.{ok-length, ok-device, not-device}
+use Rattle.guest_view.specs.View.{viewOk}
+use Rattle.map_records.specs.Words.{viewOf}
+use Rattle.guest_view.proofs.WordLaws.{view-judged}
 use Rattle.virtqueue.specs.Route.{RoutedAll, routedWith, answersFit}
-use Rattle.virtqueue.proofs.ViewWords.{view-judged}
-use Rattle.virtqueue.proofs.RouteAllLaws.{all-refused, answered-with}
+use Rattle.virtqueue.proofs.RouteAllLaws.{all-refused, block-big, table-words, view-and-device, device-off, one-off, answered-with}
 use Rattle.virtqueue.proofs.route.route_all.Statement.{statement}
 use Rattle.virtqueue.proofs.route.route_all.Tie as tie
+
+device-ok-requires : tie.Need-device-ok-requires
+device-ok-requires c κs = search needs
+
+region-size-requires : tie.Need-region-size-requires
+region-size-requires c κs = ok-length (c .before .before .before .before .before .before .args .device .now) (c .before .device-ok .result) (c .before .device-ok .ensures) (c .if1 .taken)
 
 view-ok-requires : tie.Need-view-ok-requires
 view-ok-requires c κs = search needs
 
-keeps-rules-requires : tie.Need-keeps-rules-requires
-keeps-rules-requires c κs = search needs
-
 answers-fit-requires : tie.Need-answers-fit-requires
 answers-fit-requires c κs = search needs
 
+-- what was told of the view and of the answers' words
+device : (c : tie.Then1) → deviceOk (deviceOf (c .before .before .before .before .before .before .args .device .now)) ≡ true
+device c = ok-device (c .before .before .before .before .before .before .args .device .now) (c .before .device-ok .result) (c .before .device-ok .ensures) (c .if1 .taken)
+
+told : (c : tie.After-answers-fit) → (c .before .before .view-ok .result && c .answers-fit .result) ≡ (viewOk (viewOf (c .before .before .before .before .before .before .before .before .before .before .args .view .now)) (c .before .before .before .before .before .before .before .before .before .before .args .memory-length) (deviceOf (c .before .before .before .before .before .before .before .before .before .before .args .device .now) .«region_size») && answersFit (c .before .before .before .before .before .before .before .before .before .before .args .accesses .now) (c .before .before .before .before .before .before .before .before .before .before .args .answers .now))
+told c =
+    ap₂ _&&_ (c .before .before .view-ok .ensures ∙ ap (viewOk (viewOf (c .before .before .before .before .before .before .before .before .before .before .args .view .now)) (c .before .before .before .before .before .before .before .before .before .before .args .memory-length)) (c .before .before .before .region-size .ensures)) (c .answers-fit .ensures)
+
+judged : (c : tie.Then2) → viewOk (viewOf (c .before .before .before .before .before .before .before .before .before .before .before .args .view .now)) (c .before .before .before .before .before .before .before .before .before .before .before .args .memory-length) (deviceOf (c .before .before .before .before .before .before .before .before .before .before .before .args .device .now) .«region_size») ≡ true
+judged c =
+    and-fst (viewOk (viewOf (c .before .before .before .before .before .before .before .before .before .before .before .args .view .now)) (c .before .before .before .before .before .before .before .before .before .before .before .args .memory-length) (deviceOf (c .before .before .before .before .before .before .before .before .before .before .before .args .device .now) .«region_size»)) (answersFit (c .before .before .before .before .before .before .before .before .before .before .before .args .accesses .now) (c .before .before .before .before .before .before .before .before .before .before .before .args .answers .now))
+    (sym (told (c .before)) ∙ c .if2 .taken)
+
+fit : (c : tie.Then2) → answersFit (c .before .before .before .before .before .before .before .before .before .before .before .args .accesses .now) (c .before .before .before .before .before .before .before .before .before .before .before .args .answers .now) ≡ true
+fit c =
+    and-snd (viewOk (viewOf (c .before .before .before .before .before .before .before .before .before .before .before .args .view .now)) (c .before .before .before .before .before .before .before .before .before .before .before .args .memory-length) (deviceOf (c .before .before .before .before .before .before .before .before .before .before .before .args .device .now) .«region_size»)) (answersFit (c .before .before .before .before .before .before .before .before .before .before .before .args .accesses .now) (c .before .before .before .before .before .before .before .before .before .before .before .args .answers .now))
+    (sym (told (c .before)) ∙ c .if2 .taken)
+
+block-size-requires : tie.Need-block-size-requires
+block-size-requires c κs = ok-length (c .before .before .before .before .before .before .before .before .before .before .before .args .device .now) (c .before .before .before .before .before .before .device-ok .result) (c .before .before .before .before .before .before .device-ok .ensures) (c .before .before .before .before .before .if1 .taken)
+
+plugged-requires : tie.Need-plugged-requires
+plugged-requires c κs = ok-length (c .before .before .before .before .before .before .before .before .before .before .before .before .args .device .now) (c .before .before .before .before .before .before .before .device-ok .result) (c .before .before .before .before .before .before .before .device-ok .ensures) (c .before .before .before .before .before .before .if1 .taken)
+
 routes-judged-requires : tie.Need-routes-judged-requires
 routes-judged-requires c κs =
-    let s = c .before .before .before .before .before .before .before .before .before in
-    let a = s .args in
-    let v = viewOk (viewOf (a .view .now)) (a .memory-length) (a .device .«region_size») in
-    let d = deviceOk (a .device) in
-    let fit = answersFit (a .accesses .now) (a .answers .now) in
-    let told = sym (ap₂ _&&_ (ap₂ _&&_ (c .before .before .before .before .before .view-ok .ensures) (c .before .before .before .before .keeps-rules .ensures)) (c .before .before .answers-fit .ensures)) ∙ c .before .if1 .taken in
-    let ok = and-fst (v && d) fit told in
-    let valid = device-valid (a .device) (and-snd v d ok) in
-    (view-judged (a .view .now) (a .memory-length) (a .device .«region_size») (and-fst v d ok) (let f = s .fits in omega arith), (omega (arith, valid .least), and-snd (v && d) fit told))
+    let s = c .before .before .before .before .before .before .before .before .before .before .before .before .before .before in
+    let w = s .args .device .now in
+    let size = ok-length w (c .before .before .before .before .before .before .before .before .before .device-ok .result) (c .before .before .before .before .before .before .before .before .before .device-ok .ensures) (c .before .before .before .before .before .before .before .before .if1 .taken) in
+    let ok = device (c .before .before .before .before .before .before .before .before) in (
+      view-judged (s .args .view .now) (s .args .memory-length) (deviceOf w .«region_size») (judged (c .before .before .before)) (let f = s .fits in omega arith),
+      ((block-big w size ok (c .before .before .block-size .result) (c .before .before .block-size .ensures), table-words w size ok (c .before .plugged .result .now) (c .before .plugged .ensures)), fit (c .before .before .before)),
+    )
 
 same-length : tie.Need-same-length
 same-length c = search needs
 
 returns : tie.Need-returns
 returns c =
-    let a = c .before .before .before .before .before .before .before .before .before .before .before .before .args in
-    let told = sym (ap₂ _&&_ (ap₂ _&&_ (c .before .before .before .before .before .before .before .before .view-ok .ensures) (c .before .before .before .before .before .before .before .keeps-rules .ensures)) (c .before .before .before .before .before .answers-fit .ensures)) ∙ c .before .before .before .before .if1 .taken in
-    let e = answered-with (viewOf (a .view .now)) (a .memory-length) (a .accesses .now) (a .answers .now) (a .device) told in
+    let a = c .before .before .before .before .before .before .before .before .before .before .before .before .before .before .before .before .before .args in
+    let v = viewOf (a .view .now) in
+    let d = deviceOf (a .device .now) in
+    let ok = view-and-device v (a .memory-length) d (judged (c .before .before .before .before .before .before)) (device (c .before .before .before .before .before .before .before .before .before .before .before)) in
+    let e = answered-with v (a .memory-length) d (c .before .before .before .before .before .block-size .result) (c .before .before .before .before .plugged .result .now) (c .before .before .before .before .before .block-size .ensures) (c .before .before .before .before .plugged .ensures) ok (a .accesses .now) (a .answers .now) (fit (c .before .before .before .before .before .before)) in
     (ap (λ (x : RoutedAll). x .number) (sym e), c .before .before .routes-judged .ensures ∙ ap (λ (x : RoutedAll). x .answers) (sym e))
 
 same-length-2 : tie.Need-same-length-2
@@ -50,21 +78,21 @@ same-length-2 c = search needs
 
 returns-2 : tie.Need-returns-2
 returns-2 c =
-    let a = c .before .before .before .before .before .before .before .before .args in
-    let v = viewOk (viewOf (a .view .now)) (a .memory-length) (a .device .«region_size») in
-    let told = sym (ap₂ _&&_ (ap₂ _&&_ (c .before .before .before .before .view-ok .ensures) (c .before .before .before .keeps-rules .ensures)) (c .before .answers-fit .ensures)) ∙ c .if1 .left in
-    let e = all-refused (v && deviceOk (a .device)) (routedWith (viewOf (a .view .now)) (a .memory-length) (a .device)) (a .accesses .now) (a .answers .now) told in
+    let a = c .before .before .before .before .before .before .before .before .before .before .before .args in
+    let v = viewOf (a .view .now) in
+    let d = deviceOf (a .device .now) in
+    let both = viewOk v (a .memory-length) (d .«region_size») && deviceOk d in
+    let e = all-refused both (routedWith v (a .memory-length) d) (a .accesses .now) (a .answers .now) (one-off v (a .memory-length) d (answersFit (a .accesses .now) (a .answers .now)) (sym (told (c .before)) ∙ c .if2 .left)) in
+    (ap (λ (x : RoutedAll). x .number) (sym e), ap (λ (x : RoutedAll). x .answers) (sym e))
+
+returns-3 : tie.Need-returns-3
+returns-3 c =
+    let a = c .before .before .before .before .before .before .args in
+    let v = viewOf (a .view .now) in
+    let d = deviceOf (a .device .now) in
+    let off = device-off v (a .memory-length) d (not-device (a .device .now) (c .before .device-ok .result) (c .before .device-ok .ensures) (c .if1 .left)) in
+    let e = all-refused (viewOk v (a .memory-length) (d .«region_size») && deviceOk d) (routedWith v (a .memory-length) d) (a .accesses .now) (a .answers .now) (ap (λ (x : Bool). x && answersFit (a .accesses .now) (a .answers .now)) off) in
     (ap (λ (x : RoutedAll). x .number) (sym e), ap (λ (x : RoutedAll). x .answers) (sym e))
 
 pub route-all-spec : {M : Type 1} → statement M
-route-all-spec =
-    tie.close
-    (tie.spec
-    view-ok-requires
-    keeps-rules-requires
-    answers-fit-requires
-    routes-judged-requires
-    same-length
-    returns
-    same-length-2
-    returns-2)
+route-all-spec = tie.close (tie.spec device-ok-requires region-size-requires view-ok-requires answers-fit-requires block-size-requires plugged-requires routes-judged-requires same-length returns same-length-2 returns-2 returns-3)

@@ -1,16 +1,15 @@
--- `virtqueue::route::routes_judged` meets its contract: the answers from access i on are yet to be written. Assumes nothing.
+-- `virtqueue::route::routes_judged` meets its contract. Assumes nothing.
+use native.Mathlib.Omega.{arith}
+use borrow.Author.Needs.{needs}
 use mathlib.Core.Path.{_≡_, refl, sym, ap, _∙_}
 use mathlib.Core.List.{List}
 use Prim.Native.Nat.{ℕ, _+_, _-_, _*_, _/_, _≤_}
-use native.Mathlib.Omega.{arith}
 use lib.ListN.{length}
 use lib.Seq.{sets, length-sets}
-use borrow.Author.Needs.{needs}
-use Rattle.region_map.specs.Flatten.{entries}
-use Rattle.memory_device.specs.Host.{pluggedAt}
-use Rattle.memory_device.specs.declared.device.MemoryDevice.{MemoryDevice}
-use Rattle.virtqueue.specs.Words.{viewOf}
-use Rattle.virtqueue.specs.Guest.{leafAt}
+use Rattle.map_records.specs.View.{entries}
+use Rattle.device_words.specs.Device.{pluggedIn}
+use Rattle.map_records.specs.Words.{viewOf}
+use Rattle.guest_view.specs.Guest.{leafAt}
 use Rattle.virtqueue.specs.Route.{routed, answerWords, answersTo}
 use Rattle.virtqueue.specs.declared.route.RouteAnswer.{RouteAnswer}
 use Rattle.virtqueue.proofs.RouteAllLaws.{fit-length, answers-start, answers-turn, answers-end}
@@ -18,24 +17,23 @@ use Rattle.virtqueue.proofs.route.routes_judged.Statement.{statement}
 use Rattle.virtqueue.proofs.route.routes_judged.Tie as tie
 
 -- how one access is answered
-abbrev one : List ℕ → MemoryDevice → ℕ → ℕ → RouteAnswer
-one view device = routed (leafAt (entries (viewOf view))) (pluggedAt device)
+abbrev one : List ℕ → ℕ → List ℕ → ℕ → ℕ → RouteAnswer
+one view block plugged = routed (leafAt (entries (viewOf view))) (pluggedIn block plugged)
 
 abbrev Inv-loop : tie.InvT-loop
-Inv-loop view device accesses answers₀ count i₀ answers i =
-    (sets answers (4 * i) (answersTo (one view device) accesses i (count - i)) ≡ answersTo (one view device) accesses 0 count)
+Inv-loop view block plugged accesses answers₀ count at₀ i₀ answers at i = (sets answers (4 * i) (answersTo (one view block plugged) accesses i (count - i)) ≡ answersTo (one view block plugged) accesses 0 count)
     × (i ≤ count) × (length answers ≡ length answers₀)
 
 abbrev μ-loop : tie.MeasureT-loop
-μ-loop view device accesses answers₀ count i₀ answers i = count - i
+μ-loop view block plugged accesses answers₀ count at₀ i₀ answers at i = count - i
 
 size : (s : tie.Start Inv-loop μ-loop) → length (s .args .answers .now) ≡ 4 * (length (s .args .accesses .now) / 2)
 size s = fit-length (s .args .accesses .now) (s .args .answers .now) (s .pre .1 .1)
 
 loop-holds : tie.Need-loop-holds Inv-loop μ-loop
 loop-holds c =
-    let s = c .before .before .before in
-    (answers-start (one (s .args .view .now) (s .args .device)) (s .args .accesses .now) (s .args .answers .now) (length (s .args .accesses .now) / 2) (size s), omega arith, refl)
+    let s = c .before .before .before .before in
+    (answers-start (one (s .args .view .now) (s .args .block) (s .args .plugged .now)) (s .args .accesses .now) (s .args .answers .now) (length (s .args .accesses .now) / 2) (size s), omega arith, refl)
 
 mul-w : tie.Need-mul-w Inv-loop μ-loop
 mul-w c = search needs
@@ -58,29 +56,30 @@ mul-w-4 c = search needs
 shared-slice-read-w-2 : tie.Need-shared-slice-read-w-2 Inv-loop μ-loop
 shared-slice-read-w-2 c = search needs
 
-route-judged-requires : tie.Need-route-judged-requires Inv-loop μ-loop
-route-judged-requires c κs = let s = c .before .before .before .before .before .before .before in (s .pre .0, s .pre .1 .0)
+near-requires : tie.Need-near-requires Inv-loop μ-loop
+near-requires c κs = c .before .before .before .before .before .before .before .before .pre .0
+
+route-at-requires : tie.Need-route-at-requires Inv-loop μ-loop
+route-at-requires c κs = (c .before .before .before .before .before .before .before .before .before .pre .0, (c .before .before .before .before .before .before .before .before .before .pre .1 .0, c .near .ensures))
 
 put-answer-requires : tie.Need-put-answer-requires Inv-loop μ-loop
-put-answer-requires c κs =
-    omega (arith, c .before .before .before .before .loop-test .taken, c .before .before .before .before .before .loop .inv .2, size (c .before .before .before .before .before .before .before .before .before))
+put-answer-requires c κs = omega (arith, c .before .before .before .before .before .loop-test .taken, c .before .before .before .before .before .before .loop .inv .2, size (c .before .before .before .before .before .before .before .before .before .before .before))
 
 add-i : tie.Need-add-i Inv-loop μ-loop
 add-i c = search needs
 
 loop-less : tie.Need-loop-less Inv-loop μ-loop
-loop-less c = omega (arith, c .before .before .before .before .before .before .before .loop-test .taken)
+loop-less c = omega (arith, c .before .before .before .before .before .before .before .before .loop-test .taken)
 
 loop-again : tie.Need-loop-again Inv-loop μ-loop
 loop-again c =
-    let s = c .before .before .before .before .before .before .before .before .before .before .before .before in
-    let l = c .before .before .before .before .before .before .before .before .loop in
-    let h = c .before .before .before .before .before .before .before .loop-test .taken in
-    let f = one (s .args .view .now) (s .args .device) in
+    let s = c .before .before .before .before .before .before .before .before .before .before .before .before .before .before in
+    let l = c .before .before .before .before .before .before .before .before .before .loop in
+    let h = c .before .before .before .before .before .before .before .before .loop-test .taken in
+    let f = one (s .args .view .now) (s .args .block) (s .args .plugged .now) in
     let accesses = s .args .accesses .now in
-    let n = length accesses / 2 in
-    let e = c .before .before .put-answer .ensures ∙ ap (λ (r : RouteAnswer). sets (l .answers) (4 * l .i) (answerWords r)) (c .before .before .before .before .route-judged .ensures) in (
-      ap (λ (w : List ℕ). sets w (4 * (l .i + 1)) (answersTo f accesses (l .i + 1) (n - (l .i + 1)))) e ∙ answers-turn f accesses (l .answers) (l .i) n h ∙ l .inv .0,
+    let e = c .before .before .put-answer .ensures ∙ ap (λ (r : RouteAnswer). sets (l .answers) (4 * l .i) (answerWords r)) (c .before .before .before .before .route-at .ensures) in (
+      ap (λ (x : List ℕ). sets x (4 * (l .i + 1)) (answersTo f accesses (l .i + 1) (length accesses / 2 - (l .i + 1)))) e ∙ answers-turn f accesses (l .answers) (l .i) (length accesses / 2) h ∙ l .inv .0,
       omega (arith, h),
       ap length e ∙ simp length-sets (l .inv .2),
     )
@@ -90,28 +89,9 @@ same-length c = c .before .loop .inv .2
 
 returns : tie.Need-returns Inv-loop μ-loop
 returns c =
-    let s = c .before .before .before .before .before in
+    let s = c .before .before .before .before .before .before in
     let l = c .before .loop in
-    sym (answers-end (one (s .args .view .now) (s .args .device)) (s .args .accesses .now) (l .answers) (4 * l .i) (l .i) (length (s .args .accesses .now) / 2) (c .loop-test .left)) ∙ l .inv .0
+    sym (answers-end (one (s .args .view .now) (s .args .block) (s .args .plugged .now)) (s .args .accesses .now) (l .answers) (4 * l .i) (l .i) (length (s .args .accesses .now) / 2) (c .loop-test .left)) ∙ l .inv .0
 
 pub routes-judged-spec : {M : Type 1} → statement M
-routes-judged-spec =
-    tie.close
-    (tie.spec
-    Inv-loop
-    μ-loop
-    loop-holds
-    mul-w
-    mul-w-2
-    shared-slice-read-w
-    mul-w-3
-    add-w
-    mul-w-4
-    shared-slice-read-w-2
-    route-judged-requires
-    put-answer-requires
-    add-i
-    loop-less
-    loop-again
-    same-length
-    returns)
+routes-judged-spec = tie.close (tie.spec Inv-loop μ-loop loop-holds mul-w mul-w-2 shared-slice-read-w mul-w-3 add-w mul-w-4 shared-slice-read-w-2 near-requires route-at-requires put-answer-requires add-i loop-less loop-again same-length returns)

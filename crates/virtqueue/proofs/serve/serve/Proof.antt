@@ -1,56 +1,48 @@
 -- `virtqueue::serve::serve` meets its contract. Assumes nothing.
-use mathlib.Core.Path.{_∙_}
-use Rattle.virtqueue.proofs.StepLaws.{within-moved, used-within, served-result, served-memory}
+use mathlib.Core.Path.{refl, ap, _∙_}
+use mathlib.Core.List.{List}
+use Prim.Native.Nat.{ℕ}
+use Rattle.guest_view.specs.Guest.{written}
+use Rattle.virtqueue.specs.Step.{carrying}
+use Rattle.virtqueue.proofs.StepLaws.{within-moved}
+use borrow.Author.Needs.{needs}
 use Rattle.virtqueue.proofs.serve.serve.Statement.{statement}
 use Rattle.virtqueue.proofs.serve.serve.Tie as tie
 
-respond-to-requires : tie.Need-respond-to-requires
-respond-to-requires c κs = tt
+respond-requires : tie.Need-respond-requires
+respond-requires c κs = search needs
 
-used-places-requires : tie.Need-used-places-requires
-used-places-requires c κs = let p = c .before .before .before .before .before .before .before .pre in (p .0, (p .1 .1 .0, p .1 .1 .1 .0))
-
-used-bytes-requires : tie.Need-used-bytes-requires
-used-bytes-requires c κs = c .before .before .before .before .before .before .before .before .pre .1 .1 .1 .1 .1 .1
+slice-aggregate-write-bytes : tie.Need-slice-aggregate-write-bytes
+slice-aggregate-write-bytes c = search needs
 
 write-bytes-requires : tie.Need-write-bytes-requires
-write-bytes-requires c κs = c .before .before .before .before .before .before .before .before .before .before .pre .1 .1 .1 .1 .1 .0
+write-bytes-requires c κs = search needs
 
 write-bytes-requires-2 : tie.Need-write-bytes-requires-2
-write-bytes-requires-2 c κs =
-    let p = c .before .before .before .before .before .before .before .before .before .before .before .before .before .before .pre in
-    within-moved _ _ _ _ (c .before .before .before .before .before .before .used-places .ensures) (c .before .before .before .write-bytes .kept .0) (used-within _ _ _ (p .1 .1 .1 .1 .0) (p .1 .1 .1 .0))
-
-advanced-requires : tie.Need-advanced-requires
-advanced-requires c κs = tt
+write-bytes-requires-2 c κs = let s = c .before .before .before .before .before .before .before .before .before .before .before .before .before .before .before in (within-moved _ _ _ _ refl (c .before .before .before .write-bytes .kept .0) (s .pre .1 .1 .1), s .pre .1 .1 .0)
 
 same-length : tie.Need-same-length
-same-length c = c .before .before .before .write-bytes2 .kept .0 ∙ c .before .before .before .before .before .before .before .write-bytes .kept .0
+same-length c = search needs
+
+same-length-2 : tie.Need-same-length-2
+same-length-2 c = search needs
 
 returns : tie.Need-returns
-returns c =
-    let b = c .before .before .before .before .before .before .before in
-    let a = b .before .before .before .before .before .before in
-    let s = a .before .before .before .before .before in
-    let d = s .args .device in
-    let q = s .args .queue in
-    let r = s .args .chain .request in
-    let x = a .respond-to .result in
-    let h = s .pre .1 .0 in
-    let e = a .respond-to .ensures in (
-      served-result d r x h e q (c .advanced .result) (s .args .notify) (c .advanced .ensures),
-      served-memory d r x h e _ q (s .args .head) (s .args .chain .places) _ _ _ _ _ (b .before .before .before .used-places .ensures) (b .before .before .used-bytes .ensures) (b .write-bytes .ensures) (c .before .before .before .write-bytes2 .ensures),
+unfolding carrying
+returns c = let a = c .before .before .before .before .before .before .before .before .before .before .before .before .before .before .before .before .before .before .args in
+    let r = c .before .before .before .before .before .before .before .before .before .before .before .respond .ensures in (
+      r .1,
+      c .before .before .write-bytes2 .ensures ∙ ap (λ (m : List ℕ). written m (a .used .now) (a .bytes .now)) (c .before .before .before .before .before .before .write-bytes .ensures ∙ ap (λ (x : List ℕ). written (a .mem .now) (a .places .now) x) (r .0)),
     )
 
 pub serve-spec : {M : Type 1} → statement M
 serve-spec =
     tie.close
     (tie.spec
-    respond-to-requires
-    used-places-requires
-    used-bytes-requires
+    respond-requires
+    slice-aggregate-write-bytes
     write-bytes-requires
     write-bytes-requires-2
-    advanced-requires
     same-length
+    same-length-2
     returns)

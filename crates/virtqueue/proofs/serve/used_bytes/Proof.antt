@@ -5,7 +5,7 @@ use Rattle.virtqueue.proofs.serve.used_bytes.Statement.{statement}
 use Rattle.virtqueue.proofs.serve.used_bytes.Tie as tie
 
 wrapping-add-u16-requires : tie.Need-wrapping-add-u16-requires
-wrapping-add-u16-requires c κs = tt
+wrapping-add-u16-requires c κs = search needs
 
 cast-out : tie.Need-cast-out
 cast-out c = search needs

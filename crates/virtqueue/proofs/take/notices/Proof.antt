@@ -3,18 +3,27 @@ use mathlib.Core.Path.{_≡_, sym, _∙_}
 use mathlib.Core.Bool.{true}
 use native.Mathlib.Omega.{arith}
 use borrow.Author.Tests.{not-true, not-false}
-use Rattle.virtqueue.specs.Words.{viewOf}
-use Rattle.virtqueue.specs.Guest.{byView, allReach}
+use Rattle.map_records.specs.Words.{viewOf}
+use Rattle.guest_view.specs.Guest.{viewGuest, allReach}
+use Rattle.guest_view.specs.Contracts.{InMemory}
+use Rattle.guest_view.proofs.GuestLaws.{all-memory, memory-front, memory-part}
 use Rattle.virtqueue.specs.Queue.{distance}
-use Rattle.virtqueue.specs.Contracts.{InMemory}
-use Rattle.virtqueue.proofs.GuestLaws.{all-memory, memory-front, memory-part}
 use Rattle.virtqueue.proofs.QueueLaws.{queue-facts}
 use Rattle.virtqueue.proofs.TakeLaws.{distance-is, notices-out, notices-idle, notices-far, notices-offered}
 use Rattle.virtqueue.proofs.take.notices.Statement.{statement}
 use Rattle.virtqueue.proofs.take.notices.Tie as tie
 
-near-requires : tie.Need-near-requires
-near-requires c κs = c .before .before .before .pre .0
+-- the four bytes of flags and idx are reachable, and so in the memory
+ahead : (c : tie.Else1) → allReach (viewGuest (viewOf (c .before .before .before .before .before .before .args .view .now)) (c .before .before .before .before .before .before .args .block) (c .before .before .before .before .before .before .args .plugged .now) .reach) (c .before .before .before .before .before .before .args .queue .available .0) 4 ≡ true
+ahead c = sym (c .before .reaches .ensures) ∙ not-false _ (c .if1 .left)
+
+in-memory : (c : tie.Else1) → InMemory (viewOf (c .before .before .before .before .before .before .args .view .now)) (c .before .before .before .before .before .before .args .queue .available .0) 4
+in-memory c = all-memory (viewOf (c .before .before .before .before .before .before .args .view .now)) (c .before .before .before .before .before .before .args .block) (c .before .before .before .before .before .before .args .plugged .now) (c .before .before .before .before .before .before .args .queue .available .0) 4 (ahead c)
+
+-- the distance of the indices
+apart : (c : tie.After-wrapping-sub-u16) → c .wrapping-sub-u16 .result ≡ distance (c .before .before .before .read-number2 .result) (c .before .before .before .before .before .before .before .before .before .before .before .before .args .queue .«next_available»)
+apart c =
+    distance-is _ _ _ (omega (arith, c .wrapping-sub-u16 .ok)) (omega (arith, c .before .before .before .read-number2 .ensures .1)) (omega (arith, c .before .before .struct-known2 .given)) (c .wrapping-sub-u16 .ensures)
 
 reaches-requires : tie.Need-reaches-requires
 reaches-requires c κs = (c .before .before .before .before .pre .0, c .before .before .before .before .pre .1 .1 .0)
@@ -22,25 +31,14 @@ reaches-requires c κs = (c .before .before .before .before .pre .0, c .before .
 returns : tie.Need-returns
 returns c = notices-out _ _ _ (sym (c .before .reaches .ensures) ∙ not-true _ (c .if1 .taken))
 
--- the four bytes of flags and idx are reachable, and so in the memory
-ahead : (c : tie.Else1) → allReach (byView (viewOf (c .before .before .before .before .before .before .args .view .now)) (c .before .before .before .before .before .before .args .device) .reach) (c .before .before .before .before .before .before .args .queue .available .0) 4 ≡ true
-ahead c = sym (c .before .reaches .ensures) ∙ not-false _ (c .if1 .left)
-
-in-memory : (c : tie.Else1) → InMemory (viewOf (c .before .before .before .before .before .before .args .view .now)) (c .before .before .before .before .before .before .args .queue .available .0) 4
-in-memory c = all-memory (viewOf (c .before .before .before .before .before .before .args .view .now)) (c .before .before .before .before .before .before .args .device) (c .before .before .before .before .before .before .args .queue .available .0) 4 (ahead c)
-
 read-number-requires : tie.Need-read-number-requires
-read-number-requires c κs =
-    let s = c .before .before .before .before .before .before in
-    (s .pre .0, (s .pre .1 .0, (memory-front (viewOf (s .args .view .now)) (s .args .queue .available .0) 4 2 (in-memory c) (omega arith), (omega arith, omega arith))))
+read-number-requires c κs = let s = c .before .before .before .before .before .before in (s .pre .0, (s .pre .1 .0, (memory-front (viewOf (s .args .view .now)) (s .args .queue .available .0) 4 2 (in-memory c) (omega arith), (omega arith, omega arith))))
 
 add-t14 : tie.Need-add-t14
 add-t14 c = omega (arith, queue-facts (c .before .before .before .before .before .before .before .before .args .queue) (c .before .before .before .before .before .before .before .before .pre .1 .1 .1) .available)
 
 read-number-requires-2 : tie.Need-read-number-requires-2
-read-number-requires-2 c κs =
-    let s = c .before .before .before .before .before .before .before .before in
-    (s .pre .0, (s .pre .1 .0, (memory-part (viewOf (s .args .view .now)) (s .args .queue .available .0) 4 2 2 (in-memory (c .before .before)) (omega arith), (omega arith, omega arith))))
+read-number-requires-2 c κs = let s = c .before .before .before .before .before .before .before .before in (s .pre .0, (s .pre .1 .0, (memory-part (viewOf (s .args .view .now)) (s .args .queue .available .0) 4 2 2 (in-memory (c .before .before)) (omega arith), (omega arith, omega arith))))
 
 cast-idx : tie.Need-cast-idx
 cast-idx c = omega (arith, c .read-number2 .ensures .1)
@@ -50,11 +48,6 @@ returns-2 c = notices-idle _ _ _ (ahead (c .before .before .before .before .befo
 
 wrapping-sub-u16-requires : tie.Need-wrapping-sub-u16-requires
 wrapping-sub-u16-requires c κs = tt
-
--- the distance of the indices
-apart : (c : tie.After-wrapping-sub-u16) → c .wrapping-sub-u16 .result ≡ distance (c .before .before .before .read-number2 .result) (c .before .before .before .before .before .before .before .before .before .before .before .before .args .queue .«next_available»)
-apart c =
-    distance-is _ _ _ (omega (arith, c .wrapping-sub-u16 .ok)) (omega (arith, c .before .before .before .read-number2 .ensures .1)) (omega (arith, c .before .before .struct-known2 .given)) (c .wrapping-sub-u16 .ensures)
 
 returns-3 : tie.Need-returns-3
 returns-3 c = notices-far _ _ _ (ahead (c .before .before .before .before .before .before .before .before)) _ (c .before .before .before .before .before .read-number2 .ensures .0) (c .before .before .before .if2 .left) (omega (arith, apart (c .before .before), c .if3 .taken))
@@ -66,7 +59,6 @@ pub notices-spec : {M : Type 1} → statement M
 notices-spec =
     tie.close
     (tie.spec
-    near-requires
     reaches-requires
     returns
     read-number-requires

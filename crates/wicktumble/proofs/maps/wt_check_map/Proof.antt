@@ -1,50 +1,43 @@
 -- `wicktumble::maps::wt_check_map` meets its contract. Assumes nothing.
-use Rattle.wicktumble.proofs.CallLaws.{map-fits, check-refused, check-taken}
+use borrow.Author.Needs.{needs}
+use Rattle.wicktumble.specs.Maps.{checkCall}
+use Rattle.sheet.specs.Sheet.{isMap}
+use Rattle.wicktumble.proofs.CallLaws.{taken, refused, result-fits, untold-as, reply-told}
 use Rattle.wicktumble.proofs.maps.wt_check_map.Statement.{statement}
 use Rattle.wicktumble.proofs.maps.wt_check_map.Tie as tie
 
-map-of-requires : tie.Need-map-of-requires
-map-of-requires c κs =
-    let a = c .before .before .before .args in
-    map-fits (a .map .now) (a .result .now) (c .if1 .taken) .0
-
 check-map-requires : tie.Need-check-map-requires
-check-map-requires c κs = tt
+check-map-requires c κs = search needs
 
-regions-of-requires : tie.Need-regions-of-requires
-regions-of-requires c κs = tt
+say-map-requires : tie.Need-say-map-requires
+say-map-requires c κs = search needs
 
-put-three-requires : tie.Need-put-three-requires
-put-three-requires c κs =
-    let a = c .before .before .before .before .before .before .before .args in
-    map-fits (a .map .now) (a .result .now) (c .before .before .before .before .if1 .taken) .1
-
-number-of-requires : tie.Need-number-of-requires
-number-of-requires c κs = tt
+tell-requires : tie.Need-tell-requires
+tell-requires c κs =
+    let s = c .before .before .before in
+    let a = s .before .before .before .args in
+    result-fits (isMap (a .map .now)) (a .result .now) (s .if1 .taken)
 
 same-length : tie.Need-same-length
-same-length c = c .before .before .before .put-three .kept .0
+same-length c = search needs
 
 returns : tie.Need-returns
+unfolding checkCall
 returns c =
-    let s = c .before .before .before .before .before .before in
-    let a = s .before .before .before .before .before .args in
-    check-taken (a .map .now) (a .memory-length) (a .result .now) (s .check-map .result) (s .before .before .if1 .taken) (s .before .map-of .ensures) (s .check-map .ensures) (c .number-of .ensures) (c .before .before .before .put-three .ensures) (c .before .before .before .before .before .regions-of .ensures)
+    let s = c .before .before in
+    reply-told (s .tell .ensures) (s .before .say-map .ensures) (s .before .before .check-map .ensures) (taken _ _ (s .before .before .before .before .if1 .taken))
 
 returns-2 : tie.Need-returns-2
-returns-2 c =
-    let a = c .before .before .before .args in
-    check-refused (a .map .now) (a .memory-length) (a .result .now) (c .if1 .left)
+unfolding checkCall
+returns-2 c = untold-as (refused _ _ (c .if1 .left))
 
 pub wt-check-map-spec : {M : Type 1} → statement M
 wt-check-map-spec =
     tie.close
     (tie.spec
-    map-of-requires
     check-map-requires
-    regions-of-requires
-    put-three-requires
-    number-of-requires
+    say-map-requires
+    tell-requires
     same-length
     returns
     returns-2)

@@ -1,62 +1,51 @@
 -- `wicktumble::maps::wt_flatten` meets its contract. Assumes nothing.
-use mathlib.Core.Path.{ap, _∙_}
-use mathlib.Core.Logic.{⊎-elim}
-use lib.ListN.{length}
-use Rattle.wicktumble.proofs.CallLaws.{flat-fits, flat-refused, flat-taken, flat-not}
+use borrow.Author.Needs.{needs}
+use mathlib.Core.Path.{_∙_}
+use mathlib.Core.Bool.{_&&_}
+use Rattle.wicktumble.specs.Maps.{flattenCall}
+use Rattle.region_map.specs.Flatten.{isView}
+use Rattle.region_map.proofs.Bools.{and-snd}
+use Rattle.sheet.specs.Sheet.{isMap}
+use Rattle.wicktumble.specs.Result.{isResult}
+use Rattle.wicktumble.proofs.CallLaws.{taken, refused, result-fits, unmade-as, reply-made}
 use Rattle.wicktumble.proofs.maps.wt_flatten.Statement.{statement}
 use Rattle.wicktumble.proofs.maps.wt_flatten.Tie as tie
 
-map-of-requires : tie.Need-map-of-requires
-map-of-requires c κs =
-    let a = c .before .before .before .before .args in
-    flat-fits (a .map .now) (a .view .now) (a .result .now) (c .if1 .taken) .0
-
 flatten-requires : tie.Need-flatten-requires
-flatten-requires c κs = tt
+flatten-requires c κs = search needs
 
-number-of-requires : tie.Need-number-of-requires
-number-of-requires c κs = tt
+say-flat-requires : tie.Need-say-flat-requires
+say-flat-requires c κs = search needs
 
-put-view-requires : tie.Need-put-view-requires
-put-view-requires c κs =
-    let a = c .before .before .before .before .before .before .before .before .before .before .args in
-    flat-fits (a .map .now) (a .view .now) (a .result .now) (c .before .before .before .before .before .before .if1 .taken) .1
-
-put-flat-answer-requires : tie.Need-put-flat-answer-requires
-put-flat-answer-requires c κs =
-    let a = c .before .before .before .before .before .before .before .before .before .args in
-    flat-fits (a .map .now) (a .view .now) (a .result .now) (c .before .before .before .before .before .if1 .taken) .2
+tell-requires : tie.Need-tell-requires
+tell-requires c κs =
+    let s = c .before .before .before .before .before .before in
+    let a = s .before .before .before .before .args in
+    result-fits (isView (a .view .now)) (a .result .now) (and-snd (isMap (a .map .now)) (isView (a .view .now) && isResult (a .result .now)) (s .if1 .taken))
 
 same-length : tie.Need-same-length
-same-length c = ⊎-elim (λ w. ap length (w .6) ∙ w .3 .kept .0) (λ w. ap length (w .1)) (c .before .before .before .before .if2 .came)
+same-length c = search needs
 
 same-length-2 : tie.Need-same-length-2
-same-length-2 c = c .before .before .put-flat-answer .kept .0
+same-length-2 c = search needs
 
 returns : tie.Need-returns
+unfolding flattenCall
 returns c =
-    let s = c .before .before .before .before in
-    let a = s .before .before .before .before .before .before .before .before .args in
-    let g = s .before .before .flatten in
-    ⊎-elim
-    (λ w. flat-taken (a .map .now) (a .memory-length) (a .view .now) (a .result .now) (g .result) (s .before .before .before .before .if1 .taken) (s .before .before .before .map-of .ensures) (g .ensures) (s .before .number-of .ensures) (w .0 .taken) (w .6 ∙ w .3 .ensures) (c .before .before .put-flat-answer .ensures))
-    (λ w. flat-not (a .map .now) (a .memory-length) (a .view .now) (a .result .now) (g .result) (s .before .before .before .before .if1 .taken) (s .before .before .before .map-of .ensures) (g .ensures) (s .before .number-of .ensures) (w .0 .left) (w .1) (c .before .before .put-flat-answer .ensures))
-    (s .if2 .came)
+    let s = c .before .before .before .before .before .before .before in
+    reply-made (s .flatten .ensures .1) (c .before .before .tell .ensures) (c .before .before .before .before .say-flat .ensures) (s .flatten .ensures .0) (taken _ _ (s .before .before .if1 .taken))
 
 returns-2 : tie.Need-returns-2
-returns-2 c =
-    let a = c .before .before .before .before .args in
-    flat-refused (a .map .now) (a .memory-length) (a .view .now) (a .result .now) (c .if1 .left)
+unfolding flattenCall
+returns-2 c = unmade-as (refused _ _ (c .if1 .left))
 
 pub wt-flatten-spec : {M : Type 1} → statement M
 wt-flatten-spec =
     tie.close
     (tie.spec
-    map-of-requires
     flatten-requires
-    number-of-requires
-    put-view-requires
-    put-flat-answer-requires
+    say-flat-requires
+    tell-requires
     same-length
     same-length-2
     returns

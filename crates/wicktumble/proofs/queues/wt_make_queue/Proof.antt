@@ -1,13 +1,20 @@
 -- `wicktumble::queues::wt_make_queue` meets its contract. Assumes nothing.
+use mathlib.Core.Path.{refl, ap, _∙_}
 use native.Mathlib.Omega.{arith}
-use Rattle.wicktumble.proofs.CallLaws.{make-refused, make-large, make-taken, make-not}
+use borrow.Author.Needs.{needs}
+use borrow.Author.Tests.{eq-eqb, ne-eqb}
+use Rattle.virtqueue.specs.declared.queue.QueueGiven.{QueueGiven}
+use Rattle.wicktumble.specs.Queues.{gives, makeCall}
+use Rattle.wicktumble.proofs.CallLaws.{taken, refused}
+use Rattle.wicktumble.proofs.QueueCalls.{changed-as, made-large}
 use Rattle.wicktumble.proofs.queues.wt_make_queue.Statement.{statement}
 use Rattle.wicktumble.proofs.queues.wt_make_queue.Tie as tie
 
 returns : tie.Need-returns
+unfolding makeCall
 returns c =
     let a = c .before .before .before .args in
-    make-large (a .size) (a .descriptors) (a .available) (a .used) (a .queue .now) (c .before .if1 .taken) (c .if2 .taken)
+    changed-as (made-large (a .size) (a .descriptors) (a .available) (a .used) (c .if2 .taken) (a .queue .now)) (taken _ _ (eq-eqb _ _ (c .before .if1 .taken)))
 
 cast-make-queue : tie.Need-cast-make-queue
 cast-make-queue c = omega (arith, c .if2 .left)
@@ -15,31 +22,22 @@ cast-make-queue c = omega (arith, c .if2 .left)
 make-queue-requires : tie.Need-make-queue-requires
 make-queue-requires c κs = tt
 
-number-of-requires : tie.Need-number-of-requires
-number-of-requires c κs = tt
-
-put-queue-requires : tie.Need-put-queue-requires
-put-queue-requires c κs = c .before .before .before .before .before .before .if1 .taken
+put-given-requires : tie.Need-put-given-requires
+put-given-requires c κs = c .before .before .before .if1 .taken
 
 same-length : tie.Need-same-length
-same-length c = c .before .before .put-queue .kept .0
+same-length c = c .before .before .put-given .kept .0
 
 returns-2 : tie.Need-returns-2
+unfolding makeCall
 returns-2 c =
-    let s = c .before .before .before .before .before .before .before in
+    let s = c .before .before .before .before in
     let a = s .before .before .before .before .args in
-    make-taken (a .size) (a .descriptors) (a .available) (a .used) (a .queue .now) (s .make-queue .result) (s .before .before .if1 .taken) (s .make-queue .ensures) (c .before .before .before .before .before .before .number-of .ensures) (c .before .before .before .before .before .if3 .taken) (c .before .before .put-queue .ensures)
+    changed-as (c .before .before .put-given .ensures) (ap (λ (y : QueueGiven). gives y (a .queue .now)) (s .make-queue .ensures) ∙ taken _ _ (eq-eqb _ _ (s .before .before .if1 .taken)))
 
 returns-3 : tie.Need-returns-3
-returns-3 c =
-    let s = c .before .before in
-    let a = s .before .before .before .before .args in
-    make-not (a .size) (a .descriptors) (a .available) (a .used) (a .queue .now) (s .make-queue .result) (s .before .before .if1 .taken) (s .make-queue .ensures) (c .before .number-of .ensures) (c .if3 .left)
-
-returns-4 : tie.Need-returns-4
-returns-4 c =
-    let a = c .before .before .args in
-    make-refused (a .size) (a .descriptors) (a .available) (a .used) (a .queue .now) (c .if1 .left)
+unfolding makeCall
+returns-3 c = changed-as (refl, refl) (refused _ _ (ne-eqb _ _ (c .if1 .left)))
 
 pub wt-make-queue-spec : {M : Type 1} → statement M
 wt-make-queue-spec =
@@ -48,9 +46,7 @@ wt-make-queue-spec =
     returns
     cast-make-queue
     make-queue-requires
-    number-of-requires
-    put-queue-requires
+    put-given-requires
     same-length
     returns-2
-    returns-3
-    returns-4)
+    returns-3)

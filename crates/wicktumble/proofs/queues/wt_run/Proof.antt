@@ -1,74 +1,57 @@
 -- `wicktumble::queues::wt_run` meets its contract. Assumes nothing.
 use mathlib.Core.Path.{refl}
-use Rattle.wicktumble.proofs.CallLaws.{fits, run-refused, run-taken}
+use Rattle.wicktumble.proofs.QueueCalls.{fits, run-left, run-refused}
 use Rattle.wicktumble.proofs.queues.wt_run.Statement.{statement}
 use Rattle.wicktumble.proofs.queues.wt_run.Tie as tie
 
 records-fit-requires : tie.Need-records-fit-requires
 records-fit-requires c κs = tt
 
-device-of-requires : tie.Need-device-of-requires
-device-of-requires c κs =
-    let s = c .before in
-    let a = s .before .before .before .before .before .before .before .before .before .before .args in
-    fits (a .view .now) (a .device .now) (a .queue .now) (a .result .now) (s .before .records-fit .ensures) (s .if1 .taken) .1
-
 queue-of-requires : tie.Need-queue-of-requires
 queue-of-requires c κs =
-    let s = c .before .before .before in
+    let s = c .before .before in
     let a = s .before .before .before .before .before .before .before .before .before .before .args in
     let f = fits (a .view .now) (a .device .now) (a .queue .now) (a .result .now) (s .before .records-fit .ensures) (s .if1 .taken) in
-    (f .2, f .4)
+    f .queue
 
 run-steps-requires : tie.Need-run-steps-requires
 run-steps-requires c κs = tt
 
-flag-requires : tie.Need-flag-requires
-flag-requires c κs = tt
-
-is-idle-requires : tie.Need-is-idle-requires
-is-idle-requires c κs = tt
-
-put-device-requires : tie.Need-put-device-requires
-put-device-requires c κs =
-    let s = c .before .before .before .before .before .before .before .before .before .before .before .before .before in
-    let a = s .before .before .before .before .before .before .before .before .before .before .args in
-    fits (a .view .now) (a .device .now) (a .queue .now) (a .result .now) (s .before .records-fit .ensures) (s .if1 .taken) .1
-
 put-queue-requires : tie.Need-put-queue-requires
 put-queue-requires c κs =
-    let s = c .before .before .before .before .before .before .before .before .before .before .before .before .before .before .before .before .before in
+    let s = c .before .before .before .before .before .before .before .before .before .before .before in
     let a = s .before .before .before .before .before .before .before .before .before .before .args in
-    fits (a .view .now) (a .device .now) (a .queue .now) (a .result .now) (s .before .records-fit .ensures) (s .if1 .taken) .2
+    let f = fits (a .view .now) (a .device .now) (a .queue .now) (a .result .now) (s .before .records-fit .ensures) (s .if1 .taken) in
+    f .queue .seven
 
-put-three-requires : tie.Need-put-three-requires
-put-three-requires c κs =
-    let s = c .before .before .before .before .before .before .before .before .before .before .before .before .before .before .before .before .before .before .before .before .before in
+say-run-requires : tie.Need-say-run-requires
+say-run-requires c κs = tt
+
+tell-requires : tie.Need-tell-requires
+tell-requires c κs =
+    let s = c .before .before .before .before .before .before .before .before .before .before .before .before .before .before .before .before in
     let a = s .before .before .before .before .before .before .before .before .before .before .args in
-    fits (a .view .now) (a .device .now) (a .queue .now) (a .result .now) (s .before .records-fit .ensures) (s .if1 .taken) .3
-
-end-number-requires : tie.Need-end-number-requires
-end-number-requires c κs = tt
+    let f = fits (a .view .now) (a .device .now) (a .queue .now) (a .result .now) (s .before .records-fit .ensures) (s .if1 .taken) in
+    f .result
 
 same-length : tie.Need-same-length
-same-length c = c .before .before .before .before .before .before .before .before .before .before .before .put-device .kept .0
+same-length c = c .before .before .before .before .before .before .before .before .before .before .before .before .before .before .run-steps .kept .1 .0
 
 same-length-2 : tie.Need-same-length-2
 same-length-2 c = c .before .before .before .before .before .before .before .put-queue .kept .0
 
 same-length-3 : tie.Need-same-length-3
-same-length-3 c = c .before .before .before .before .before .before .before .before .before .before .before .before .before .before .before .before .before .before .before .run-steps .kept .1 .1 .1 .0
+same-length-3 c = c .before .before .before .before .before .before .before .before .before .before .before .before .before .before .run-steps .kept .1 .1 .1 .0
 
 same-length-4 : tie.Need-same-length-4
-same-length-4 c = c .before .before .before .put-three .kept .0
+same-length-4 c = c .before .before .tell .kept .0
 
 returns : tie.Need-returns
 returns c =
-    let s = c .before .before .before .before .before .before .before .before .before .before .before .before .before .before .before .before .before .before .before in
-    let a = s .before .before .before .before .before .before .before .before .before .before .before .before .before .before .before .before .args in
-    run-taken (a .view .now) (a .device .now) (a .queue .now) (a .memory .now) (a .k) (a .result .now) (s .run-steps .result)
-    (s .before .before .before .before .before .before .before .records-fit .ensures) (s .before .before .before .before .before .before .if1 .taken) refl (s .before .before .before .before .device-of .ensures) (s .before .before .queue-of .ensures) (s .run-steps .ensures .0) (s .run-steps .ensures .1)
-    (c .before .before .before .before .before .before .before .before .before .before .before .before .before .before .flag .ensures) (c .before .before .before .before .before .before .before .before .before .before .before .before .before .is-idle .ensures) (c .before .before .before .before .before .before .before .before .before .before .before .put-device .ensures) (c .before .before .before .before .before .before .before .put-queue .ensures) (c .before .before .before .put-three .ensures) (c .end-number .ensures)
+    let s = c .before .before .before .before .before .before .before .before .before .before .before .before .before .before in
+    let a = s .before .before .before .before .before .before .before .before .before .before .before .before .before .before .before .args in
+    run-left (a .view .now) (a .device .now) (a .queue .now) (a .memory .now) (a .result .now) (s .before .before .before .before .before .before .records-fit .ensures) (a .k) (s .before .before .before .before .before .if1 .taken) (s .before .before .queue-of .ensures)
+    (s .run-steps .ensures) (c .before .before .before .before .before .before .before .put-queue .ensures) (c .before .before .before .say-run .ensures) (c .before .before .tell .ensures)
 
 same-length-5 : tie.Need-same-length-5
 same-length-5 c = refl
@@ -82,22 +65,18 @@ same-length-7 c = refl
 returns-2 : tie.Need-returns-2
 returns-2 c =
     let a = c .before .before .before .before .before .before .before .before .before .before .args in
-    run-refused (a .view .now) (a .device .now) (a .queue .now) (a .memory .now) (a .k) (a .result .now) (c .before .records-fit .ensures) (c .if1 .left)
+    run-refused (a .view .now) (a .device .now) (a .queue .now) (a .memory .now) (a .result .now) (c .before .records-fit .ensures) (a .k) (c .if1 .left)
 
 pub wt-run-spec : {M : Type 1} → statement M
 wt-run-spec =
     tie.close
     (tie.spec
     records-fit-requires
-    device-of-requires
     queue-of-requires
     run-steps-requires
-    flag-requires
-    is-idle-requires
-    put-device-requires
     put-queue-requires
-    put-three-requires
-    end-number-requires
+    say-run-requires
+    tell-requires
     same-length
     same-length-2
     same-length-3

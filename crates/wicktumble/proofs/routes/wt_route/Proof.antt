@@ -1,42 +1,43 @@
 -- `wicktumble::routes::wt_route` meets its contract. Assumes nothing.
-use Rattle.wicktumble.proofs.CallLaws.{route-fits, route-refused, route-taken}
+use borrow.Author.Needs.{needs}
+use mathlib.Core.Path.{ap, _∙_}
+use mathlib.Core.Bool.{_&&_, _||_}
+use Rattle.region_map.specs.Flatten.{isView}
+use Rattle.region_map.proofs.Bools.{and-snd}
+use Rattle.device_words.specs.Words.{isDevice}
+use Rattle.wicktumble.specs.Result.{isResult}
+use Rattle.wicktumble.specs.Routes.{noDevice, routeTold, routeCall}
+use Rattle.wicktumble.proofs.CallLaws.{taken, refused, result-fits, untold-as, told-as}
 use Rattle.wicktumble.proofs.routes.wt_route.Statement.{statement}
 use Rattle.wicktumble.proofs.routes.wt_route.Tie as tie
 
 route-by-requires : tie.Need-route-by-requires
-route-by-requires c κs =
-    let a = c .before .before .before .before .args in
-    let f = route-fits (a .view .now) (a .device .now) (a .result .now) (c .if1 .taken) in
-    (f .0, f .1)
+route-by-requires c κs = search needs
 
-put-route-requires : tie.Need-put-route-requires
-put-route-requires c κs =
-    let a = c .before .before .before .before .before .before .args in
-    route-fits (a .view .now) (a .device .now) (a .result .now) (c .before .before .if1 .taken) .2
+say-route-requires : tie.Need-say-route-requires
+say-route-requires c κs = search needs
 
-number-of-requires : tie.Need-number-of-requires
-number-of-requires c κs = tt
+tell-requires : tie.Need-tell-requires
+tell-requires c κs =
+    let s = c .before .before .before in
+    let a = s .before .before .before .before .args in
+    let known = noDevice (a .device .now) || isDevice (a .device .now) in
+    result-fits known (a .result .now) (and-snd (isView (a .view .now)) (known && isResult (a .result .now)) (s .if1 .taken))
 
 same-length : tie.Need-same-length
-same-length c = c .before .before .before .put-route .kept .0
+same-length c = search needs
 
 returns : tie.Need-returns
+unfolding routeCall
 returns c =
-    let a = c .before .before .before .before .before .before .before .before .before .before .args in
-    route-taken (a .view .now) (a .memory-length) (a .device .now) (a .address) (a .width) (a .result .now) (c .before .before .before .before .before .before .if1 .taken) (c .before .before .before .before .before .route-by .ensures) (c .number-of .ensures) (c .before .before .before .put-route .ensures)
+    let s = c .before .before in
+    told-as (s .tell .ensures) (s .before .say-route .ensures ∙ ap routeTold (s .before .before .before .route-by .ensures) ∙ taken _ _ (s .before .before .before .before .if1 .taken))
 
 returns-2 : tie.Need-returns-2
-returns-2 c =
-    let a = c .before .before .before .before .args in
-    route-refused (a .view .now) (a .memory-length) (a .device .now) (a .address) (a .width) (a .result .now) (c .if1 .left)
+unfolding routeCall
+returns-2 c = untold-as (refused _ _ (c .if1 .left))
 
 pub wt-route-spec : {M : Type 1} → statement M
 wt-route-spec =
     tie.close
-    (tie.spec
-    route-by-requires
-    put-route-requires
-    number-of-requires
-    same-length
-    returns
-    returns-2)
+    (tie.spec route-by-requires say-route-requires tell-requires same-length returns returns-2)

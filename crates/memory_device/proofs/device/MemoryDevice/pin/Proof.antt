@@ -1,55 +1,45 @@
 -- `memory_device::device::MemoryDevice::pin` meets its contract. Assumes nothing.
-use borrow.Author.Tests.{not-true, not-false}
-use Rattle.memory_device.proofs.RuleLaws.{device-valid}
+use Rattle.memory_device.specs.Record.{recordOf}
+use mathlib.Core.Bool.{true}
+use Rattle.device_words.specs.Device.{MemoryDevice, withPins, withPin}
 use Rattle.memory_device.specs.Host.{pinned, pinFault}
-use Prim.Native.Nat.{ℕ}
-use mathlib.Core.Bool.{Bool, true, false}
-use native.Mathlib.Omega.{arith}
-use mathlib.Core.Path.{_≡_, refl, sym, ap, _∙_}
+use Rattle.memory_device.proofs.LentLaws.{by-value, whole-pinned}
 use borrow.Author.Needs.{needs}
 use Rattle.memory_device.proofs.device.MemoryDevice.pin.Statement.{statement}
 use Rattle.memory_device.proofs.device.MemoryDevice.pin.Tie as tie
 
-device-ok-requires : tie.Need-device-ok-requires
-device-ok-requires c κs = search needs
+words-of-requires : tie.Need-words-of-requires
+words-of-requires c κs = search needs
 
-cast-b : tie.Need-cast-b
-cast-b c = search needs
+slice-aggregate-pin : tie.Need-slice-aggregate-pin
+slice-aggregate-pin c = search needs
 
-can-pin-requires : tie.Need-can-pin-requires
-can-pin-requires c κs = device-valid _ (sym (c .before .before .before .before .device-ok .ensures) ∙ c .before .before .before .if1 .taken)
+cast-pin : tie.Need-cast-pin
+cast-pin c = search needs
 
-with-run-requires : tie.Need-with-run-requires
-with-run-requires c κs = omega (arith, c .before .can-pin .ensures .1 (c .if2 .taken))
+pin-requires : tie.Need-pin-requires
+pin-requires c κs = search needs
 
-with-tables-requires : tie.Need-with-tables-requires
-with-tables-requires c κs = search needs
+slice-aggregate-device-of : tie.Need-slice-aggregate-device-of
+slice-aggregate-device-of c = search needs
+
+device-of-requires : tie.Need-device-of-requires
+device-of-requires c κs = search needs
 
 returns : tie.Need-returns
 unfolding pinned
-returns c = let a = c .before .before .before .before .before .before .before .before .before .args in
-    let free : pinFault (a .self) (a .block .0) ≡ false = not-true (pinFault (a .self) (a .block .0)) (sym (c .before .before .before .can-pin .ensures .0) ∙ c .before .before .if2 .taken) in
-    rw (sym (c .before .before .before .before .before .before .before .before .device-ok .ensures) ∙ c .before .before .before .before .before .before .before .if1 .taken, free, c .with-tables .ensures, c .before .with-run .ensures)
-
-returns-2 : tie.Need-returns-2
-unfolding pinned
-returns-2 c = let a = c .before .before .before .before .before .before .before .args in
-    let taken : pinFault (a .self) (a .block .0) ≡ true = not-false (pinFault (a .self) (a .block .0)) (sym (c .before .can-pin .ensures .0) ∙ c .if2 .left) in
-    rw (sym (c .before .before .before .before .before .before .device-ok .ensures) ∙ c .before .before .before .before .before .if1 .taken, taken)
-
-returns-3 : tie.Need-returns-3
-unfolding pinned
-returns-3 c = rw (sym (c .before .device-ok .ensures) ∙ c .if1 .left)
+returns c = let a = c .before .before .before .before .before .before .before .args in
+    by-value (recordOf (a .self)) (c .before .before .before .before .before .before .words-of .result) _ _ _ (c .before .before .before .before .before .before .words-of .ensures .1) (c .device-of .ensures)
+    (λ (d : MemoryDevice). pinFault d (a .block .0)) 15 (λ (d : MemoryDevice). withPins d (withPin (d .pinned) (a .block .0) true)) (whole-pinned (recordOf (a .self)) (a .block .0) true) (c .before .before .before .pin .ensures)
 
 pub pin-spec : {M : Type 1} → statement M
 pin-spec =
     tie.close
     (tie.spec
-    device-ok-requires
-    cast-b
-    can-pin-requires
-    with-run-requires
-    with-tables-requires
-    returns
-    returns-2
-    returns-3)
+    words-of-requires
+    slice-aggregate-pin
+    cast-pin
+    pin-requires
+    slice-aggregate-device-of
+    device-of-requires
+    returns)

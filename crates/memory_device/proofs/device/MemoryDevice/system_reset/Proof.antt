@@ -1,23 +1,41 @@
 -- `memory_device::device::MemoryDevice::system_reset` meets its contract. Assumes nothing.
+use Rattle.memory_device.specs.Record.{recordOf}
+use mathlib.Core.Bool.{false}
+use Rattle.device_words.specs.Device.{MemoryDevice, fresh}
 use Rattle.memory_device.specs.Host.{wasReset}
-use mathlib.Core.Path.{_≡_, refl, sym, ap, _∙_}
+use Rattle.memory_device.proofs.LentLaws.{by-value, whole-fresh}
 use borrow.Author.Needs.{needs}
 use Rattle.memory_device.proofs.device.MemoryDevice.system_reset.Statement.{statement}
 use Rattle.memory_device.proofs.device.MemoryDevice.system_reset.Tie as tie
 
-device-ok-requires : tie.Need-device-ok-requires
-device-ok-requires c κs = search needs
+words-of-requires : tie.Need-words-of-requires
+words-of-requires c κs = search needs
 
-with-tables-requires : tie.Need-with-tables-requires
-with-tables-requires c κs = search needs
+slice-aggregate-system-reset : tie.Need-slice-aggregate-system-reset
+slice-aggregate-system-reset c = search needs
+
+system-reset-requires : tie.Need-system-reset-requires
+system-reset-requires c κs = search needs
+
+slice-aggregate-device-of : tie.Need-slice-aggregate-device-of
+slice-aggregate-device-of c = search needs
+
+device-of-requires : tie.Need-device-of-requires
+device-of-requires c κs = search needs
 
 returns : tie.Need-returns
 unfolding wasReset
-returns c = rw (sym (c .before .before .device-ok .ensures) ∙ c .before .if1 .taken, c .with-tables .ensures)
-
-returns-2 : tie.Need-returns-2
-unfolding wasReset
-returns-2 c = rw (sym (c .before .device-ok .ensures) ∙ c .if1 .left)
+returns c = let a = c .before .before .before .before .before .before .args in
+    by-value (recordOf (a .self)) (c .before .before .before .before .before .words-of .result) _ _ _ (c .before .before .before .before .before .words-of .ensures .1) (c .device-of .ensures)
+    (λ (d : MemoryDevice). false) 14 (λ (d : MemoryDevice). fresh d) (whole-fresh (recordOf (a .self))) (c .before .before .before .system-reset .ensures)
 
 pub system-reset-spec : {M : Type 1} → statement M
-system-reset-spec = tie.close (tie.spec device-ok-requires with-tables-requires returns returns-2)
+system-reset-spec =
+    tie.close
+    (tie.spec
+    words-of-requires
+    slice-aggregate-system-reset
+    system-reset-requires
+    slice-aggregate-device-of
+    device-of-requires
+    returns)

@@ -1,50 +1,45 @@
 -- `memory_device::device::MemoryDevice::unpin` meets its contract. Assumes nothing.
-use Rattle.memory_device.specs.Table.{bitAt}
+use Rattle.memory_device.specs.Record.{recordOf}
+use mathlib.Core.Bool.{false, not}
+use Rattle.device_words.specs.Device.{MemoryDevice, isPinned, withPins, withPin}
 use Rattle.memory_device.specs.Host.{unpinned}
-use Prim.Native.Nat.{ℕ}
-use mathlib.Core.Bool.{Bool, true, false}
-use native.Mathlib.Omega.{arith}
-use mathlib.Core.Path.{_≡_, refl, sym, ap, _∙_}
+use Rattle.memory_device.proofs.LentLaws.{by-value, whole-pinned}
 use borrow.Author.Needs.{needs}
 use Rattle.memory_device.proofs.device.MemoryDevice.unpin.Statement.{statement}
 use Rattle.memory_device.proofs.device.MemoryDevice.unpin.Tie as tie
 
-device-ok-requires : tie.Need-device-ok-requires
-device-ok-requires c κs = search needs
+words-of-requires : tie.Need-words-of-requires
+words-of-requires c κs = search needs
 
-cast-b : tie.Need-cast-b
-cast-b c = search needs
+slice-aggregate-unpin : tie.Need-slice-aggregate-unpin
+slice-aggregate-unpin c = search needs
 
-is-in-requires : tie.Need-is-in-requires
-is-in-requires c κs = search needs
+cast-unpin : tie.Need-cast-unpin
+cast-unpin c = search needs
 
-with-run-requires : tie.Need-with-run-requires
-with-run-requires c κs = omega (arith, c .before .is-in .ensures .1 (c .if2 .taken))
+unpin-requires : tie.Need-unpin-requires
+unpin-requires c κs = search needs
 
-with-tables-requires : tie.Need-with-tables-requires
-with-tables-requires c κs = search needs
+slice-aggregate-device-of : tie.Need-slice-aggregate-device-of
+slice-aggregate-device-of c = search needs
+
+device-of-requires : tie.Need-device-of-requires
+device-of-requires c κs = search needs
 
 returns : tie.Need-returns
 unfolding unpinned
-returns c = rw (sym (c .before .before .before .before .before .before .before .before .device-ok .ensures) ∙ c .before .before .before .before .before .before .before .if1 .taken, sym (c .before .before .before .is-in .ensures .0) ∙ c .before .before .if2 .taken, c .with-tables .ensures, c .before .with-run .ensures)
-
-returns-2 : tie.Need-returns-2
-unfolding unpinned
-returns-2 c = rw (sym (c .before .before .before .before .before .before .device-ok .ensures) ∙ c .before .before .before .before .before .if1 .taken, sym (c .before .is-in .ensures .0) ∙ c .if2 .left)
-
-returns-3 : tie.Need-returns-3
-unfolding unpinned
-returns-3 c = rw (sym (c .before .device-ok .ensures) ∙ c .if1 .left)
+returns c = let a = c .before .before .before .before .before .before .before .args in
+    by-value (recordOf (a .self)) (c .before .before .before .before .before .before .words-of .result) _ _ _ (c .before .before .before .before .before .before .words-of .ensures .1) (c .device-of .ensures)
+    (λ (d : MemoryDevice). not (isPinned d (a .block .0))) 15 (λ (d : MemoryDevice). withPins d (withPin (d .pinned) (a .block .0) false)) (whole-pinned (recordOf (a .self)) (a .block .0) false) (c .before .before .before .unpin .ensures)
 
 pub unpin-spec : {M : Type 1} → statement M
 unpin-spec =
     tie.close
     (tie.spec
-    device-ok-requires
-    cast-b
-    is-in-requires
-    with-run-requires
-    with-tables-requires
-    returns
-    returns-2
-    returns-3)
+    words-of-requires
+    slice-aggregate-unpin
+    cast-unpin
+    unpin-requires
+    slice-aggregate-device-of
+    device-of-requires
+    returns)

@@ -1,0 +1,85 @@
+//! The library's calls over slices (include/wicktumble.h).
+
+#[rustfmt::skip]
+extern "C" {
+    fn wt_read_sheet(sheet: *const u8, sheet_len: usize, memory_length: u64,
+                     map: *mut u64, map_words: usize, result: *mut u64, result_words: usize) -> u64;
+    fn wt_check_map(map: *const u64, map_words: usize, memory_length: u64,
+                    result: *mut u64, result_words: usize) -> u64;
+    fn wt_walk(map: *const u64, map_words: usize, memory_length: u64, address: u64,
+               result: *mut u64, result_words: usize) -> u64;
+    fn wt_flatten(map: *const u64, map_words: usize, memory_length: u64,
+                  view: *mut u64, view_words: usize, result: *mut u64, result_words: usize) -> u64;
+    fn wt_route(view: *const u64, view_words: usize, memory_length: u64,
+                device: *const u64, device_words: usize, address: u64, width: u64,
+                result: *mut u64, result_words: usize) -> u64;
+    fn wt_route_all(view: *const u64, view_words: usize, memory_length: u64,
+                    device: *const u64, device_words: usize, accesses: *const u64, access_words: usize,
+                    answers: *mut u64, answer_words: usize) -> u64;
+    fn wt_step(view: *const u64, view_words: usize, device: *mut u64, device_words: usize,
+               queue: *mut u64, queue_words: usize, memory: *mut u8, memory_len: usize,
+               result: *mut u64, result_words: usize) -> u64;
+    fn wt_run(view: *const u64, view_words: usize, device: *mut u64, device_words: usize,
+              queue: *mut u64, queue_words: usize, memory: *mut u8, memory_len: usize, k: u64,
+              result: *mut u64, result_words: usize) -> u64;
+}
+
+pub type Answer = (u64, [u64; 3]);
+
+#[inline]
+fn with_result(call: impl FnOnce(*mut u64) -> u64) -> Answer {
+    let mut result = [0u64; 3];
+    let number = call(result.as_mut_ptr());
+    (number, result)
+}
+
+pub fn read_sheet(sheet: &[u8], memory_length: u64, map: &mut [u64]) -> Answer {
+    let (s, m) = (sheet.as_ptr(), map.as_mut_ptr());
+    with_result(|r| unsafe { wt_read_sheet(s, sheet.len(), memory_length, m, map.len(), r, 3) })
+}
+
+pub fn check_map(map: &[u64], memory_length: u64) -> Answer {
+    with_result(|r| unsafe { wt_check_map(map.as_ptr(), map.len(), memory_length, r, 3) })
+}
+
+pub fn walk(map: &[u64], memory_length: u64, address: u64) -> Answer {
+    with_result(|r| unsafe { wt_walk(map.as_ptr(), map.len(), memory_length, address, r, 3) })
+}
+
+pub fn flatten(map: &[u64], memory_length: u64, view: &mut [u64]) -> Answer {
+    let (m, v) = (map.as_ptr(), view.as_mut_ptr());
+    with_result(|r| unsafe { wt_flatten(m, map.len(), memory_length, v, view.len(), r, 3) })
+}
+
+pub fn route(
+    view: &[u64],
+    memory_length: u64,
+    device: &[u64; 37],
+    address: u64,
+    width: u64,
+) -> Answer {
+    let (v, d) = (view.as_ptr(), device.as_ptr());
+    with_result(|r| unsafe { wt_route(v, view.len(), memory_length, d, 37, address, width, r, 3) })
+}
+
+pub fn route_all(
+    view: &[u64],
+    memory_length: u64,
+    device: &[u64; 37],
+    accesses: &[u64],
+    answers: &mut [u64],
+) -> u64 {
+    let (v, d, a) = (view.as_ptr(), device.as_ptr(), accesses.as_ptr());
+    let (to, words) = (answers.as_mut_ptr(), answers.len());
+    unsafe { wt_route_all(v, view.len(), memory_length, d, 37, a, accesses.len(), to, words) }
+}
+
+pub fn step(view: &[u64], d: &mut [u64; 37], q: &mut [u64; 7], memory: &mut [u8]) -> Answer {
+    let (v, d, q, m) = (view.as_ptr(), d.as_mut_ptr(), q.as_mut_ptr(), memory.as_mut_ptr());
+    with_result(|r| unsafe { wt_step(v, view.len(), d, 37, q, 7, m, memory.len(), r, 3) })
+}
+
+pub fn run(view: &[u64], d: &mut [u64; 37], q: &mut [u64; 7], memory: &mut [u8], k: u64) -> Answer {
+    let (v, d, q, m) = (view.as_ptr(), d.as_mut_ptr(), q.as_mut_ptr(), memory.as_mut_ptr());
+    with_result(|r| unsafe { wt_run(v, view.len(), d, 37, q, 7, m, memory.len(), k, r, 3) })
+}

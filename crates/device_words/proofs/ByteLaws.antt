@@ -1,0 +1,102 @@
+-- Laws of numbers as little-endian bytes: their length, their bound, that reading gives back what was written, and the turns of the loops over them.
+-- Assumes nothing.
+use mathlib.Core.Path.{_≡_, refl, sym, ap, _∙_}
+use mathlib.Core.List.{List, [], _∷_}
+use Prim.Native.Nat.{ℕ, zero, suc, _+_, _-_, _*_, _/_, _%_, _^_, _≤_, _<_}
+use native.Mathlib.Omega.{arith}
+use native.Mathlib.Nat.{pow-suc, pow-le-pow-right, mod-eq-of-lt}
+use lib.ListN.{length, getD, set, replicate}
+use lib.Seq.{sets}
+use Rattle.map_records.proofs.StoreLaws.{over}
+use Rattle.device_words.specs.Bytes.{le, number, responseBytes, configurationBytes}
+
+pub le-length : (k n : ℕ) → length (le k n) ≡ k
+unfolding le
+le-length zero n = refl
+le-length (suc k) n = ap suc (le-length k (n / 256))
+
+pub number-bound : (s : List ℕ) (at k : ℕ) → ((i : ℕ) → getD s i 0 < 256) → number s at k < 256 ^ k
+unfolding number
+number-bound s at zero h = omega arith
+number-bound s at (suc k) h = omega (arith, pow-suc 256 k, h at, number-bound s (suc at) k h)
+
+number-tail : (x : ℕ) (s : List ℕ) (at k : ℕ) → number (x ∷ s) (suc at) k ≡ number s at k
+unfolding number
+number-tail x s at zero = refl
+number-tail x s at (suc k) = ap (λ (m : ℕ). getD s at 0 + 256 * m) (number-tail x s (suc at) k)
+
+-- reading gives back what was written
+pub number-le : (k n : ℕ) → n < 256 ^ k → number (le k n) 0 k ≡ n
+unfolding number le
+number-le zero n h = omega arith
+number-le (suc k) n h =
+    let rest : number (le k (n / 256)) 0 k ≡ n / 256 = number-le k (n / 256) (omega (arith, pow-suc 256 k)) in
+    omega (arith, number-tail (n % 256) (le k (n / 256)) 0 k)
+
+-- the state of a loop that reads k bytes from the last to the first, with i of them left
+pub record Reading (s : List ℕ) (at k value i : ℕ) : Type 0 where
+  pub most : i ≤ k
+  pub sum : value ≡ number s (at + i) (k - i)
+  pub small : value < 256 ^ (k - i)
+
+none : (s : List ℕ) (at i : ℕ) → i ≡ 0 → number s at i ≡ 0
+unfolding number
+none s at i e = rw e
+
+one-more : (s : List ℕ) (at k : ℕ) → number s at (suc k) ≡ getD s at 0 + 256 * number s (suc at) k
+unfolding number
+one-more s at k = refl
+
+pub reading-starts : (s : List ℕ) (at k : ℕ) → Reading s at k 0 k
+reading-starts s at k =
+    record { most = omega arith; sum = sym (none s (at + k) (k - k) (omega arith)); small = let e : k - k ≡ 0 = omega arith in rw e (omega arith) }
+
+module _ (s : List ℕ) (at k value i : ℕ) (r : Reading s at k value i) where
+  pub reading-ends : i ≤ 0 → (value ≡ number s at k) × (value < 256 ^ k)
+  reading-ends z =
+      let e : i ≡ 0 = omega arith in
+      let p : at + i ≡ at = omega arith in
+      let q : k - i ≡ k = omega arith in
+      (rw (p, q) at (r .sum), rw q at (r .small))
+
+  module _ (left : 0 < i) where
+    pub reading-fits : k ≤ 8 → value < 2 ^ 56
+    reading-fits h = omega (arith, r .small, pow-le-pow-right {n = 256} (omega arith) {i = k - i} {j = 7} (omega (arith, r .most)))
+
+    pub reading-turn : (b : ℕ) → b ≡ getD s (at + (i - 1)) 0 → b < 256 → Reading s at k (value * 256 + b) (i - 1)
+    reading-turn b e w =
+        let p : k - (i - 1) ≡ suc (k - i) = omega (arith, r .most) in
+        let q : suc (at + (i - 1)) ≡ at + i = omega arith in
+        record {
+          most = omega (arith, r .most);
+          sum = rw p (omega (arith, one-more s (at + (i - 1)) (k - i), ap (λ (x : ℕ). number s x (k - i)) q, r .sum));
+          small = rw p (omega (arith, pow-suc 256 (k - i), r .small));
+        }
+
+-- a turn of a loop that stores the bytes of a number, with the rest of it to come
+pub put-turn : (s : List ℕ) (at i rest : ℕ) → i < 8
+    → sets (set s (at + i) (rest % 256)) (at + (i + 1)) (le (8 - (i + 1)) (rest / 256)) ≡ sets s (at + i) (le (8 - i) rest)
+unfolding le
+put-turn s at i rest h =
+    let p : 8 - i ≡ suc (8 - (i + 1)) = omega arith in
+    let q : at + (i + 1) ≡ suc (at + i) = omega arith in
+    rw (p, q)
+
+pub put-ends : (s : List ℕ) (at i rest : ℕ) → 8 ≤ i → sets s (at + i) (le (8 - i) rest) ≡ s
+unfolding le
+put-ends s at i rest h = let p : 8 - i ≡ 0 = omega arith in rw p
+
+-- the stores that make a response, and the puts that make the configuration
+pub response-stored : (kind state : ℕ) → kind < 65536 → state < 65536
+    → set (set (set (set (replicate 10 0) 0 (kind % 256)) 1 (kind / 256)) 8 (state % 256)) 9 (state / 256) ≡ responseBytes kind state
+unfolding responseBytes le
+response-stored kind state h l =
+    let p : kind / 256 % 256 ≡ kind / 256 = mod-eq-of-lt (omega arith) in
+    let q : state / 256 % 256 ≡ state / 256 = mod-eq-of-lt (omega arith) in
+    rw (p, q)
+
+pub configuration-put : (s : List ℕ) (block addr region usable plugged requested : ℕ) → length s ≡ 56
+    → sets (sets (sets (sets (sets (sets (sets s 0 (le 8 block)) 8 (le 8 0)) 16 (le 8 addr)) 24 (le 8 region)) 32 (le 8 usable)) 40 (le 8 plugged)) 48 (le 8 requested)
+    ≡ configurationBytes block addr region usable plugged requested
+unfolding configurationBytes le
+configuration-put s block addr region usable plugged requested e = over (configurationBytes block addr region usable plugged requested) s e

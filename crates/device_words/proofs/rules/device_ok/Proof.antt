@@ -1,0 +1,62 @@
+-- `device_words::rules::device_ok` meets its contract. Assumes nothing.
+use mathlib.Core.Path.{_≡_, sym, _∙_}
+use native.Mathlib.Omega.{arith}
+use borrow.Author.Tests.{eq-eqb, ne-eqb}
+use lib.ListN.{length}
+use Rattle.device_words.specs.Device.{deviceOk}
+use Rattle.device_words.proofs.RuleLaws.{setup-ruled}
+use Rattle.device_words.proofs.DeviceWords.{device-at}
+use borrow.Author.Needs.{needs}
+use Rattle.device_words.proofs.rules.device_ok.Statement.{statement}
+use Rattle.device_words.proofs.rules.device_ok.Tie as tie
+
+shared-slice-read-setup-ok : tie.Need-shared-slice-read-setup-ok
+shared-slice-read-setup-ok c = search needs
+
+shared-slice-read-setup-ok-2 : tie.Need-shared-slice-read-setup-ok-2
+shared-slice-read-setup-ok-2 c = search needs
+
+shared-slice-read-setup-ok-3 : tie.Need-shared-slice-read-setup-ok-3
+shared-slice-read-setup-ok-3 c = search needs
+
+shared-slice-read-setup-ok-4 : tie.Need-shared-slice-read-setup-ok-4
+shared-slice-read-setup-ok-4 c = search needs
+
+shared-slice-read-setup-ok-5 : tie.Need-shared-slice-read-setup-ok-5
+shared-slice-read-setup-ok-5 c = search needs
+
+setup-ok-requires : tie.Need-setup-ok-requires
+setup-ok-requires c κs = search needs
+
+tables-ok-requires : tie.Need-tables-ok-requires
+tables-ok-requires c κs = let r = setup-ruled _ _ _ _ _ (sym (c .before .setup-ok .ensures) ∙ c .if2 .taken) in (c .before .before .before .before .before .before .before .if1 .taken, omega (arith, r .least, r .usable, r .blocks))
+
+returns : tie.Need-returns
+unfolding deviceOk
+returns c = let w = c .before .before .before .before .before .before .before .before .before .before .args .device .now in
+    let l = c .before .before .before .before .before .before .before .before .if1 .taken in
+    rw (eq-eqb (length w) 37 l, device-at w l, sym (c .before .before .setup-ok .ensures) ∙ c .before .if2 .taken) (c .tables-ok .ensures)
+
+returns-2 : tie.Need-returns-2
+unfolding deviceOk
+returns-2 c = let w = c .before .before .before .before .before .before .before .before .before .args .device .now in
+    let l = c .before .before .before .before .before .before .before .if1 .taken in
+    rw (eq-eqb (length w) 37 l, device-at w l, sym (c .before .setup-ok .ensures) ∙ c .if2 .left)
+
+returns-3 : tie.Need-returns-3
+returns-3 c = rw (ne-eqb (length (c .before .before .args .device .now)) 37 (c .if1 .left))
+
+pub device-ok-spec : {M : Type 1} → statement M
+device-ok-spec =
+    tie.close
+    (tie.spec
+    shared-slice-read-setup-ok
+    shared-slice-read-setup-ok-2
+    shared-slice-read-setup-ok-3
+    shared-slice-read-setup-ok-4
+    shared-slice-read-setup-ok-5
+    setup-ok-requires
+    tables-ok-requires
+    returns
+    returns-2
+    returns-3)

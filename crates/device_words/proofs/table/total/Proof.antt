@@ -1,0 +1,67 @@
+-- `device_words::table::total` meets its contract. Assumes nothing.
+use mathlib.Core.Path.{_≡_, refl, ap, ap₂, _∙_, sym}
+use mathlib.Core.Logic.{⊎-elim}
+use Prim.Native.Nat.{ℕ, _+_, _-_, _*_, _≤_}
+use native.Mathlib.Omega.{arith}
+use Rattle.device_words.specs.Table.{bitsIn, setIn}
+use Rattle.device_words.proofs.TableLaws.{set-next, no-bits}
+use borrow.Author.Needs.{needs}
+use Rattle.device_words.proofs.table.total.Statement.{statement}
+use Rattle.device_words.proofs.table.total.Tie as tie
+
+abbrev Inv-loop : tie.InvT-loop
+Inv-loop words count₀ i₀ count i = (i ≤ 16) × (count ≡ setIn words i) × (count ≤ i * 64)
+
+abbrev μ-loop : tie.MeasureT-loop
+μ-loop words count₀ i₀ count i = 16 - i
+
+loop-holds : tie.Need-loop-holds Inv-loop μ-loop
+unfolding setIn
+loop-holds c = (search needs, refl, search needs)
+
+mul-word : tie.Need-mul-word Inv-loop μ-loop
+mul-word c = search needs
+
+shared-slice-read-word : tie.Need-shared-slice-read-word Inv-loop μ-loop
+shared-slice-read-word c = search needs
+
+ones-requires : tie.Need-ones-requires Inv-loop μ-loop
+ones-requires c κs = search needs
+
+add-count : tie.Need-add-count Inv-loop μ-loop
+add-count c = search needs
+
+add-i : tie.Need-add-i Inv-loop μ-loop
+add-i c = search needs
+
+loop-less : tie.Need-loop-less Inv-loop μ-loop
+loop-less c = search needs
+
+loop-again : tie.Need-loop-again Inv-loop μ-loop
+loop-again c = let t = c .before .before .before .before .before .args .words .now in
+    let i = c .before .before .before .loop .i in
+    let old = c .before .before .before .loop .inv .1 in
+    ⊎-elim
+    (λ w. (omega arith, w .2 ∙ ap₂ _+_ old (w .1 .ensures .0) ∙ sym (set-next t i), omega (arith, w .2, w .1 .ensures .1)))
+    (λ w. (omega arith, w .1 ∙ old ∙ omega (arith, set-next t i, ap (λ (x : ℕ). bitsIn x 64) (w .0 .left) ∙ no-bits 64), omega (arith, w .1)))
+    (c .if1 .came)
+
+returns : tie.Need-returns Inv-loop μ-loop
+returns c = let e : c .before .loop .i ≡ 16 = omega arith in
+    (c .before .loop .inv .1 ∙ ap (setIn (c .before .before .before .args .words .now)) e, omega arith)
+
+pub total-spec : {M : Type 1} → statement M
+total-spec =
+    tie.close
+    (tie.spec
+    Inv-loop
+    μ-loop
+    loop-holds
+    mul-word
+    shared-slice-read-word
+    ones-requires
+    add-count
+    add-i
+    loop-less
+    loop-again
+    returns)

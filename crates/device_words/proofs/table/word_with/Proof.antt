@@ -1,0 +1,39 @@
+-- `device_words::table::word_with` meets its contract. Assumes nothing.
+use mathlib.Core.Path.{ap, _∙_, sym}
+use mathlib.Core.Bool.{Bool, cond}
+use Prim.Native.Nat.{_+_, _*_}
+use native.Mathlib.Omega.{arith}
+use Rattle.device_words.specs.Table.{bitOf, wordOf, within}
+use Rattle.device_words.proofs.WordLaws.{run-set, run-unset}
+use borrow.Author.Needs.{needs}
+use Rattle.device_words.proofs.table.word_with.Statement.{statement}
+use Rattle.device_words.proofs.table.word_with.Tie as tie
+
+mul-start : tie.Need-mul-start
+mul-start c = search needs
+
+add-bits-below : tie.Need-add-bits-below
+add-bits-below c = search needs
+
+bits-below-requires : tie.Need-bits-below-requires
+bits-below-requires c κs = search needs
+
+bits-below-requires-2 : tie.Need-bits-below-requires-2
+bits-below-requires-2 c κs = search needs
+
+returns : tie.Need-returns
+returns c =
+    let a = c .before .before .before .args in
+    run-set (a .i * 64) (a .from) (a .n) (c .before .before .bits-below .result) (c .before .bits-below2 .result) (a .word) (c .before .before .bits-below .ensures) (c .before .bits-below2 .ensures) (omega arith)
+    ∙ ap (λ (x : Bool). wordOf (λ k. cond (within (a .from) (a .n) (a .i * 64 + k)) x (bitOf (a .word) k)) 64) (sym (c .if1 .taken))
+
+returns-2 : tie.Need-returns-2
+returns-2 c =
+    let a = c .before .before .before .args in
+    run-unset (a .i * 64) (a .from) (a .n) (c .before .before .bits-below .result) (c .before .bits-below2 .result) (a .word) (c .before .before .bits-below .ensures) (c .before .bits-below2 .ensures) (omega arith)
+    ∙ ap (λ (x : Bool). wordOf (λ k. cond (within (a .from) (a .n) (a .i * 64 + k)) x (bitOf (a .word) k)) 64) (sym (c .if1 .left))
+
+pub word-with-spec : {M : Type 1} → statement M
+word-with-spec =
+    tie.close
+    (tie.spec mul-start add-bits-below bits-below-requires bits-below-requires-2 returns returns-2)

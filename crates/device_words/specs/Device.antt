@@ -1,0 +1,138 @@
+-- The device's record, where a block is pinned, and the rules: SETUP's (13) and 27's. Assumes nothing: these are definitions.
+use mathlib.Core.Bool.{Bool, true, false, cond, _&&_, _||_, not}
+use mathlib.Core.List.{List}
+use mathlib.Core.Path.{_≡_}
+use Prim.Native.Nat.{ℕ, zero, suc, _+_, _-_, _*_, _/_, _%_, _^_, _≤_, _<_}
+use lib.Dec.{eqb, leb}
+use lib.ListN.{length, getD, replicate}
+use Rattle.region_map.specs.Fault.{limit}
+use Rattle.device_words.specs.Table.{bitAt, within, tableOf, setIn, anyBelow, only, implies}
+
+-- the memory device. Block b is plugged, or pinned, where bit b % 64 of word b / 64 is set
+pub record MemoryDevice : Type 0 where
+  pub «block_size» : ℕ
+  pub addr : ℕ
+  pub «region_size» : ℕ
+  pub «usable_size» : ℕ
+  pub «requested_size» : ℕ
+  pub plugged : List ℕ
+  pub pinned : List ℕ
+
+-- 'the block is pinned': all that asks a pin asks it here
+abbrev pub pinnedIn : List ℕ → ℕ → Bool
+pinnedIn pins b = bitAt pins b
+
+abbrev pub isPinned : MemoryDevice → ℕ → Bool
+isPinned d b = pinnedIn (d .pinned) b
+
+-- one of the n blocks from `from` on is pinned; one of all 1,024
+abbrev pub anyPinnedIn : List ℕ → ℕ → ℕ → Bool
+anyPinnedIn pins from n = anyBelow (λ i. pinnedIn pins (from + i)) n
+
+abbrev pub anyPinned : MemoryDevice → ℕ → ℕ → Bool
+anyPinned d from n = anyPinnedIn (d .pinned) from n
+
+-- b is one of 2^12, 2^13, .. below 2^(12 + n)
+unfoldable pub powerBelow : ℕ → ℕ → Bool
+powerBelow b zero = false
+powerBelow b (suc n) = powerBelow b n || eqb b (2 ^ (12 + n))
+
+-- 'Block size a power of two, 4,096 to 2^30'
+abbrev pub blockOk : ℕ → Bool
+blockOk b = powerBelow b 19
+
+-- 'region = managed node's size, a multiple, at most 1,024 blocks': a region's size is never 0
+abbrev pub regionOk : ℕ → ℕ → Bool
+regionOk b region = not (eqb region 0) && eqb (region % b) 0 && leb region (1024 * b)
+
+-- 'addr a multiple, addr + region at most 2^48'
+abbrev pub addrOk : ℕ → ℕ → ℕ → Bool
+addrOk b addr region = eqb (addr % b) 0 && leb (addr + region) limit
+
+-- 'requested <= usable <= region, multiples'
+abbrev pub sizesOk : ℕ → ℕ → ℕ → ℕ → Bool
+sizesOk b region usable requested = leb requested usable && leb usable region && eqb (usable % b) 0 && eqb (requested % b) 0
+
+-- SETUP's rules
+unfoldable pub setupOk : ℕ → ℕ → ℕ → ℕ → ℕ → Bool
+setupOk b addr region usable requested = blockOk b && (regionOk b region && (addrOk b addr region && sizesOk b region usable requested))
+
+-- 27 for the device: 'a plugged or pinned block outside the region, a plugged one outside the usable part, a pinned one not plugged'
+unfoldable pub tablesOk : MemoryDevice → Bool
+tablesOk d =
+    only (bitAt (d .plugged)) (d .«region_size» / d .«block_size») && only (isPinned d) (d .«region_size» / d .«block_size»)
+    && only (bitAt (d .plugged)) (d .«usable_size» / d .«block_size») && implies (isPinned d) (bitAt (d .plugged))
+
+unfoldable pub deviceOk : MemoryDevice → Bool
+deviceOk d = setupOk (d .«block_size») (d .addr) (d .«region_size») (d .«usable_size») (d .«requested_size») && tablesOk d
+
+-- 'Fresh: nothing plugged or pinned'
+abbrev pub noBlocks : List ℕ
+noBlocks = replicate 16 0
+
+abbrev pub withTables : MemoryDevice → List ℕ → List ℕ → MemoryDevice
+withTables d plugged pinned =
+    record {
+      «block_size» = d .«block_size»;
+      addr = d .addr;
+      «region_size» = d .«region_size»;
+      «usable_size» = d .«usable_size»;
+      «requested_size» = d .«requested_size»;
+      plugged = plugged;
+      pinned = pinned;
+    }
+
+abbrev pub withPlugged : MemoryDevice → List ℕ → MemoryDevice
+withPlugged d plugged = withTables d plugged (d .pinned)
+
+abbrev pub withPins : MemoryDevice → List ℕ → MemoryDevice
+withPins d pins = withTables d (d .plugged) pins
+
+-- the pins with one block's set or not
+abbrev pub withPin : List ℕ → ℕ → Bool → List ℕ
+withPin pins b on = tableOf (λ c. cond (within b 1 c) on (pinnedIn pins c))
+
+abbrev pub fresh : MemoryDevice → MemoryDevice
+fresh d = withTables d noBlocks noBlocks
+
+-- the record of zeros, which 27 refuses
+abbrev pub noDevice : MemoryDevice
+noDevice =
+    record { «block_size» = 0; addr = 0; «region_size» = 0; «usable_size» = 0; «requested_size» = 0; plugged = noBlocks; pinned = noBlocks }
+
+-- 'Plugged size = block size times the blocks plugged in the record'
+unfoldable pub pluggedSize : MemoryDevice → ℕ
+pluggedSize d = d .«block_size» * setIn (d .plugged) 16
+
+-- 'Block of a byte = its offset in the managed node divided by the block size'
+abbrev pub blockOfByte : MemoryDevice → ℕ → ℕ
+blockOfByte d o = o / d .«block_size»
+
+-- is the byte at an offset of the managed region in a plugged block, by the block size and the plug table? A division by 0 gives 0
+abbrev pub pluggedIn : ℕ → List ℕ → ℕ → Bool
+pluggedIn block plugged o = bitAt plugged (o / block)
+
+abbrev pub pluggedAt : MemoryDevice → ℕ → Bool
+pluggedAt d = pluggedIn (d .«block_size») (d .plugged)
+
+-- what a valid record is to those who use it
+pub record Valid (d : MemoryDevice) : Type 0 where
+  pub least : 4096 ≤ d .«block_size»
+  pub most : d .«block_size» ≤ 2 ^ 30
+  pub some : 0 < d .«region_size»
+  pub region : d .«region_size» % d .«block_size» ≡ 0
+  pub blocks : d .«region_size» ≤ 1024 * d .«block_size»
+  pub aligned : d .addr % d .«block_size» ≡ 0
+  pub end : d .addr + d .«region_size» ≤ limit
+  pub requested : d .«requested_size» ≤ d .«usable_size»
+  pub usable : d .«usable_size» ≤ d .«region_size»
+  pub «whole-usable» : d .«usable_size» % d .«block_size» ≡ 0
+  pub «whole-requested» : d .«requested_size» % d .«block_size» ≡ 0
+  pub inside : (b : ℕ) → b < 1024 → bitAt (d .plugged) b ≡ true → b < d .«usable_size» / d .«block_size»
+  pub held : (b : ℕ) → b < 1024 → isPinned d b ≡ true → bitAt (d .plugged) b ≡ true
+
+-- what carrying out a request needs of a record
+pub record Sized (d : MemoryDevice) : Type 0 where
+  pub some : 0 < d .«block_size»
+  pub most : d .«block_size» ≤ 2 ^ 30
+  pub room : d .«usable_size» ≤ 1024 * d .«block_size»

@@ -1,0 +1,38 @@
+-- The device's 37 words where they lie: five numbers, sixteen words of the plug table, sixteen of the pins. Assumes nothing: these are definitions.
+use mathlib.Core.Bool.{Bool, cond}
+use mathlib.Core.List.{List, _∷_, _++_}
+use mathlib.Core.Path.{_≡_}
+use Prim.Native.Nat.{ℕ}
+use lib.Dec.{eqb}
+use lib.ListN.{length, getD, take, drop}
+use Rattle.device_words.specs.Device.{MemoryDevice, noDevice, Sized}
+
+abbrev pub isDevice : List ℕ → Bool
+isDevice w = eqb (length w) 37
+
+-- the record in 37 words
+abbrev pub deviceAt : List ℕ → MemoryDevice
+deviceAt w =
+    record {
+      «block_size» = getD w 0 0;
+      addr = getD w 1 0;
+      «region_size» = getD w 2 0;
+      «usable_size» = getD w 3 0;
+      «requested_size» = getD w 4 0;
+      plugged = take 16 (drop 5 w);
+      pinned = take 16 (drop 21 w);
+    }
+
+-- the record that words stand for: words of another number are a record of zeros, which 27 refuses
+unfoldable pub deviceOf : List ℕ → MemoryDevice
+deviceOf w = cond (isDevice w) (deviceAt w) noDevice
+
+-- the words of a record
+unfoldable pub deviceWords : MemoryDevice → List ℕ
+deviceWords d =
+    d .«block_size» ∷ d .addr ∷ d .«region_size» ∷ d .«usable_size» ∷ d .«requested_size» ∷ (d .plugged ++ d .pinned)
+
+-- what the functions over a device's words need of them
+pub record Fit (w : List ℕ) : Type 0 where
+  pub size : length w ≡ 37
+  pub sized : Sized (deviceAt w)

@@ -1,0 +1,195 @@
+// What a request is answered on a device whose sizes are in SETUP's bounds: the range rule, the
+// checks in their order, and the change of the table.
+ghost use mathlib.Core.Path.{_≡_};
+ghost use mathlib.Core.Bool.{true};
+ghost use Prim.Native.Nat.{_<_};
+ghost use lib.ListN.{length};
+ghost use Rattle.device_words.specs.Device.{Sized, withPlugged};
+ghost use Rattle.device_words.specs.Words.{Fit, deviceAt, deviceOf, deviceWords};
+ghost use Rattle.device_words.specs.Request.{Run, requestOf, inRange, plugAnswer, unplugAnswer, unplugAllAnswer, stateAnswer, answered, isAck, acknowledged, carriedOut};
+use crate::device::block_of_request;
+use crate::pins::any_pinned;
+use crate::request::Request;
+use crate::request::Response;
+use crate::request::answer_bytes;
+use crate::request::request_of;
+use crate::state::plugged_size;
+use crate::table::all_set;
+use crate::table::clear;
+use crate::table::none_set;
+use crate::table::with_run;
+use crate::words::ADDR;
+use crate::words::BLOCK_SIZE;
+use crate::words::PINNED;
+use crate::words::PLUGGED;
+use crate::words::REQUESTED_SIZE;
+use crate::words::USABLE_SIZE;
+use crate::words::WORDS;
+use map_records::map::GuestAddress;
+
+const PLUG: u64 = 0;
+
+const UNPLUG: u64 = 1;
+
+const UNPLUG_ALL: u64 = 2;
+
+const STATE: u64 = 3;
+
+// Is the request aligned, of a block at least, and whole in the usable part? No sum wraps.
+fn in_range(device: &[u64], request: Request) -> bool
+    requires { ⌜ Fit (now device) × (request .blocks < 65536) ⌝ }
+    ensures { λ r. ⌜ r ≡ inRange (deviceAt (now (device .entry))) request ⌝ }
+{
+    let address = request.addr.0;
+    let first = device[ADDR];
+    let block = device[BLOCK_SIZE];
+    let usable = device[USABLE_SIZE];
+    if address < first {
+        return false;
+    }
+    let offset = address - first;
+    let size = request.blocks * block;
+    if usable < offset {
+        return false;
+    }
+    (address % block == 0) & (1 <= request.blocks) & (size <= usable - offset)
+}
+
+// The first block of a request in range.
+fn run_start(device: &[u64], request: Request) -> usize
+    requires { ⌜ Fit (now device) × (inRange (deviceAt (now device)) request ≡ true) ⌝ }
+    ensures { λ r. ⌜ Run (deviceAt (now (device .entry))) request r ⌝ }
+{
+    let addr = request.addr;
+    let first = GuestAddress(device[ADDR]);
+    let block = block_of_request(device[BLOCK_SIZE], first, addr);
+    block.0 as usize
+}
+
+// PLUG: a block already plugged is an error, and more than requested is not taken.
+fn plug_answer(device: &[u64], request: Request, from: usize) -> Response
+    requires { ⌜ Fit (now device) × Run (deviceAt (now device)) request from ⌝ }
+    ensures { λ r. ⌜ r ≡ plugAnswer (deviceAt (now (device .entry))) request ⌝ }
+{
+    let count = request.blocks as usize;
+    if !none_set(&device[PLUGGED..PINNED], from, count) {
+        return Response::Error;
+    }
+    let size = plugged_size(device) + request.blocks * device[BLOCK_SIZE];
+    if device[REQUESTED_SIZE] < size {
+        return Response::Nack;
+    }
+    Response::Ack
+}
+
+// UNPLUG: a block not plugged is an error, and a pinned one is busy.
+fn unplug_answer(device: &[u64], request: Request, from: usize) -> Response
+    requires { ⌜ Fit (now device) × Run (deviceAt (now device)) request from ⌝ }
+    ensures { λ r. ⌜ r ≡ unplugAnswer (deviceAt (now (device .entry))) request ⌝ }
+{
+    let count = request.blocks as usize;
+    if !all_set(&device[PLUGGED..PINNED], from, count) {
+        return Response::Error;
+    }
+    if any_pinned(&device[PINNED..WORDS], from, count) {
+        return Response::Busy;
+    }
+    Response::Ack
+}
+
+// UNPLUG ALL: any pin is busy.
+fn unplug_all_answer(device: &[u64]) -> Response
+    requires { ⌜ Fit (now device) ⌝ }
+    ensures { λ r. ⌜ r ≡ unplugAllAnswer (deviceAt (now (device .entry))) ⌝ }
+{
+    if any_pinned(&device[PINNED..WORDS], 0, 1024) {
+        return Response::Busy;
+    }
+    Response::Ack
+}
+
+// STATE: all plugged, all unplugged, or mixed.
+fn state_answer(device: &[u64], request: Request, from: usize) -> Response
+    requires { ⌜ Fit (now device) × Run (deviceAt (now device)) request from ⌝ }
+    ensures { λ r. ⌜ r ≡ stateAnswer (deviceAt (now (device .entry))) request ⌝ }
+{
+    let count = request.blocks as usize;
+    if all_set(&device[PLUGGED..PINNED], from, count) {
+        return Response::Plugged;
+    }
+    if none_set(&device[PLUGGED..PINNED], from, count) {
+        return Response::Unplugged;
+    }
+    Response::Mixed
+}
+
+// The answer to a request.
+fn answer_of(device: &[u64], request: Request) -> Response
+    requires { ⌜ Fit (now device) × (request .blocks < 65536) ⌝ }
+    ensures { λ r. ⌜ r ≡ answered (deviceAt (now (device .entry))) request ⌝ }
+{
+    let kind = request.kind;
+    if kind == UNPLUG_ALL {
+        return unplug_all_answer(device);
+    }
+    if STATE < kind {
+        return Response::Error;
+    }
+    if in_range(device, request) {
+        let from = run_start(device, request);
+        if kind == PLUG {
+            return plug_answer(device, request, from);
+        }
+        if kind == UNPLUG {
+            return unplug_answer(device, request, from);
+        }
+        return state_answer(device, request, from);
+    }
+    Response::Error
+}
+
+fn is_ack(response: Response) -> bool
+    ensures { λ r. ⌜ r ≡ isAck response ⌝ }
+{
+    match response {
+        Response::Ack => true,
+        Response::Nack => false,
+        Response::Busy => false,
+        Response::Error => false,
+        Response::Plugged => false,
+        Response::Unplugged => false,
+        Response::Mixed => false,
+    }
+}
+
+// The plug table of an acknowledged request, changed where it lies.
+fn acknowledge(device: &mut [u64], request: Request)
+    requires { ⌜ Fit (now device) × (isAck (answered (deviceAt (now device)) request) ≡ true) ⌝ }
+    ensures { λ _. ⌜ now (device .exit) ≡ deviceWords (withPlugged (deviceAt (now (device .entry))) (acknowledged (deviceAt (now (device .entry))) request)) ⌝ }
+{
+    let kind = request.kind;
+    if kind == UNPLUG_ALL {
+        clear(&mut device[PLUGGED..PINNED]);
+        return;
+    }
+    let from = run_start(device, request);
+    let count = request.blocks as usize;
+    let on = kind == PLUG;
+    with_run(&mut device[PLUGGED..PINNED], from, count, on);
+}
+
+// A request answered and carried out. Only an acknowledgement changes the words, and of them only the
+// plug table, once.
+pub fn respond(device: &mut [u64], bytes: [u8; 24]) -> [u8; 10]
+    requires { ⌜ (length (now device) ≡ 37) × Sized (deviceOf (now device)) ⌝ }
+    ensures { λ r. ⌜ (r ≡ carriedOut (deviceOf (now (device .entry))) (requestOf bytes) .response)
+        × (now (device .exit) ≡ deviceWords (carriedOut (deviceOf (now (device .entry))) (requestOf bytes) .device)) ⌝ }
+{
+    let request = request_of(bytes);
+    let response = answer_of(device, request);
+    if is_ack(response) {
+        acknowledge(device, request);
+        return answer_bytes(response);
+    }
+    answer_bytes(response)
+}

@@ -1,0 +1,75 @@
+// Little-endian numbers in the requests, responses and configuration of source 000.
+ghost use mathlib.Core.Path.{_≡_};
+ghost use lib.ListN.{length};
+ghost use lib.Seq.{sets};
+ghost use Prim.Native.Nat.{_+_, _≤_, _<_, _^_};
+ghost use Rattle.device_words.specs.Bytes.{le, number, responseBytes, configurationBytes};
+use map_records::map::GuestAddress;
+
+fn wide(x: u8) -> u64
+    ensures { λ r. ⌜ (r ≡ x) × (r < 256) ⌝ }
+{
+    x as u64
+}
+
+// The number in the k bytes of a request from a place on.
+pub fn number_at(bytes: [u8; 24], at: usize, k: usize) -> u64
+    requires { ⌜ (k ≤ 8) × (at + k ≤ 24) ⌝ }
+    ensures { λ r. ⌜ (r ≡ number bytes at k) × (r < 256 ^ k) ⌝ }
+{
+    let mut value: u64 = 0;
+    let mut i = k;
+    while 0 < i {
+        i -= 1;
+        value = value * 256 + wide(bytes[at + i]);
+    }
+    value
+}
+
+// The ten bytes of a response.
+pub fn response_bytes(kind: u16, state: u16) -> [u8; 10]
+    ensures { λ r. ⌜ r ≡ responseBytes kind state ⌝ }
+{
+    let mut out = [0u8; 10];
+    out[0] = (kind % 256) as u8;
+    out[1] = (kind / 256) as u8;
+    out[8] = (state % 256) as u8;
+    out[9] = (state / 256) as u8;
+    out
+}
+
+// The eight bytes of a number, stored from a place on.
+fn put(out: &mut [u8], at: usize, n: u64)
+    requires { ⌜ at + 8 ≤ length (now out) ⌝ }
+    ensures { λ _. ⌜ now (out .exit) ≡ sets (now (out .entry)) at (le 8 n) ⌝ }
+{
+    let mut rest = n;
+    let mut i = 0;
+    while i < 8 {
+        out[at + i] = (rest % 256) as u8;
+        rest = rest / 256;
+        i += 1;
+    }
+}
+
+// The 56 bytes of the configuration. The second eight are node_id and padding.
+pub fn put_configuration(
+    out: &mut [u8],
+    block: u64,
+    addr: GuestAddress,
+    region: u64,
+    usable: u64,
+    plugged: u64,
+    requested: u64,
+)
+    requires { ⌜ length (now out) ≡ 56 ⌝ }
+    ensures { λ _. ⌜ now (out .exit) ≡ configurationBytes block (addr .0) region usable plugged requested ⌝ }
+{
+    put(out, 0, block);
+    put(out, 8, 0);
+    put(out, 16, addr.0);
+    put(out, 24, region);
+    put(out, 32, usable);
+    put(out, 40, plugged);
+    put(out, 48, requested);
+}

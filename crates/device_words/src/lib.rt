@@ -1,0 +1,11 @@
+// The memory device where it lies: 37 words that a caller lends. Inner functions, which rely on what
+// their callers show; no entry point is here, and nothing of it is exported to hosts.
+pub mod answer;
+pub mod bytes;
+pub mod device;
+pub mod pins;
+pub mod request;
+pub mod rules;
+pub mod state;
+pub mod table;
+pub mod words;

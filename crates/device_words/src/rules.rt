@@ -1,0 +1,111 @@
+// SETUP's rules, and 27's for a device record.
+ghost use mathlib.Core.Path.{_≡_};
+ghost use Prim.Native.Nat.{_+_, _*_, _≤_, _<_};
+ghost use mathlib.Core.Bool.{_&&_};
+ghost use lib.Dec.{leb};
+ghost use lib.ListN.{length};
+ghost use Rattle.device_words.specs.Device.{blockOk, regionOk, addrOk, sizesOk, setupOk, tablesOk, deviceOk};
+ghost use Rattle.device_words.specs.Words.{isDevice, deviceAt, deviceOf};
+use crate::pins::pins_plugged;
+use crate::table::only_below;
+use crate::words::ADDR;
+use crate::words::BLOCK_SIZE;
+use crate::words::PINNED;
+use crate::words::PLUGGED;
+use crate::words::REGION_SIZE;
+use crate::words::REQUESTED_SIZE;
+use crate::words::USABLE_SIZE;
+use crate::words::WORDS;
+use map_records::map::GuestAddress;
+
+// The largest end of a region, 2^48.
+const LIMIT: u64 = 281474976710656;
+
+// Is the block size a power of two from 4,096 to 2^30?
+fn block_ok(block: u64) -> bool
+    ensures { λ r. ⌜ r ≡ blockOk block ⌝ }
+{
+    let mut power: u64 = 4096;
+    for k in 0..19usize {
+        if block == power {
+            return true;
+        }
+        power *= 2;
+    }
+    false
+}
+
+// Is the sum at most the limit? It never wraps.
+fn sum_within(a: u64, b: u64, limit: u64) -> bool
+    ensures { λ r. ⌜ r ≡ leb (a + b) limit ⌝ }
+{
+    if limit < b {
+        return false;
+    }
+    a <= limit - b
+}
+
+fn region_ok(block: u64, region: u64) -> bool
+    requires { ⌜ (0 < block) × (block ≤ 1073741824) ⌝ }
+    ensures { λ r. ⌜ r ≡ regionOk block region ⌝ }
+{
+    !(region == 0) & (region % block == 0) & (region <= 1024 * block)
+}
+
+fn addr_ok(block: u64, addr: GuestAddress, region: u64) -> bool
+    requires { ⌜ 0 < block ⌝ }
+    ensures { λ r. ⌜ r ≡ addrOk block (addr .0) region ⌝ }
+{
+    (addr.0 % block == 0) & sum_within(addr.0, region, LIMIT)
+}
+
+fn sizes_ok(block: u64, region: u64, usable: u64, requested: u64) -> bool
+    requires { ⌜ 0 < block ⌝ }
+    ensures { λ r. ⌜ r ≡ sizesOk block region usable requested ⌝ }
+{
+    (requested <= usable) & (usable <= region) & (usable % block == 0) & (requested % block == 0)
+}
+
+// SETUP's rules.
+pub fn setup_ok(block: u64, addr: GuestAddress, region: u64, usable: u64, requested: u64) -> bool
+    ensures { λ r. ⌜ r ≡ setupOk block (addr .0) region usable requested ⌝ }
+{
+    if block_ok(block) {
+        return region_ok(block, region)
+            & (addr_ok(block, addr, region) & sizes_ok(block, region, usable, requested));
+    }
+    false
+}
+
+// 27's rules over the two tables: what is plugged lies in the usable part, and what is pinned is
+// plugged. That both lie in the region follows.
+fn tables_ok(device: &[u64]) -> bool
+    requires { ⌜ length (now device) ≡ 37 ⌝ }
+    requires { ⌜ (0 < deviceAt (now device) .«block_size») × (deviceAt (now device) .«usable_size» ≤ deviceAt (now device) .«region_size»)
+        × (deviceAt (now device) .«region_size» ≤ 1024 * deviceAt (now device) .«block_size») ⌝ }
+    ensures { λ r. ⌜ r ≡ tablesOk (deviceAt (now (device .entry))) ⌝ }
+{
+    let blocks = (device[USABLE_SIZE] / device[BLOCK_SIZE]) as usize;
+    let plugged = &device[PLUGGED..PINNED];
+    let pins = &device[PINNED..WORDS];
+    only_below(plugged, blocks) & pins_plugged(pins, plugged)
+}
+
+// Do the words of a device keep their rules? Those of another number do not.
+pub fn device_ok(device: &[u64]) -> bool
+    ensures { λ r. ⌜ r ≡ (isDevice (now (device .entry)) && deviceOk (deviceOf (now (device .entry)))) ⌝ }
+{
+    if device.len() == WORDS {
+        let addr = GuestAddress(device[ADDR]);
+        if setup_ok(
+            device[BLOCK_SIZE],
+            addr,
+            device[REGION_SIZE],
+            device[USABLE_SIZE],
+            device[REQUESTED_SIZE],
+        ) {
+            return tables_ok(device);
+        }
+    }
+    false
+}

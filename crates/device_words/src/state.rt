@@ -1,0 +1,19 @@
+// The plugged size.
+ghost use mathlib.Core.Path.{_≡_};
+ghost use Prim.Native.Nat.{_≤_};
+ghost use lib.ListN.{length};
+ghost use Rattle.device_words.specs.Device.{pluggedSize};
+ghost use Rattle.device_words.specs.Words.{Fit, deviceAt};
+use crate::table::total;
+use crate::words::BLOCK_SIZE;
+use crate::words::PINNED;
+use crate::words::PLUGGED;
+
+// Block size times the blocks plugged.
+pub fn plugged_size(device: &[u64]) -> u64
+    requires { ⌜ Fit (now device) ⌝ }
+    ensures { λ r. ⌜ (r ≡ pluggedSize (deviceAt (now (device .entry)))) × (r ≤ 1099511627776) ⌝ }
+{
+    let count = total(&device[PLUGGED..PINNED]);
+    device[BLOCK_SIZE] * count
+}

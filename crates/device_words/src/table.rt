@@ -1,0 +1,174 @@
+// A table of 1,024 blocks in sixteen lent words.
+ghost use mathlib.Core.Path.{_≡_};
+ghost use mathlib.Core.Bool.{cond};
+ghost use Prim.Native.Nat.{_+_, _*_, _≤_, _<_};
+ghost use lib.Dec.{eqb, ltb};
+ghost use lib.ListN.{length, replicate};
+ghost use Rattle.device_words.specs.Table.{bitOf, bitAt, wordOf, within, tableOf, heldIn, bitsIn, setIn, onlyBelow, partOf};
+
+// Every bit of a word.
+const ALL: u64 = 0xffff_ffff_ffff_ffff;
+
+// Is block b set? None is from 1,024 on.
+pub fn is_in(words: &[u64], b: usize) -> bool
+    requires { ⌜ length (now words) ≡ 16 ⌝ }
+    ensures { λ r. ⌜ r ≡ bitAt (now (words .entry)) b ⌝ }
+{
+    if b < 1024 {
+        let word = words[b / 64];
+        let k = (b % 64) as u64;
+        return (word >> k) % 2 == 1;
+    }
+    false
+}
+
+// Of the word whose first block is `start`, the bits of the blocks below b.
+fn bits_below(start: usize, b: usize) -> u64
+    ensures { λ r. ⌜ r ≡ wordOf (λ k. ltb (start + k) b) 64 ⌝ }
+{
+    if b <= start {
+        return 0;
+    }
+    let count = (b - start) as u64;
+    if 64 <= count {
+        return ALL;
+    }
+    (1 << count) - 1
+}
+
+// Word i, with those of its blocks that are among the n blocks from `from` on set or not.
+fn word_with(word: u64, i: usize, from: usize, n: usize, on: bool) -> u64
+    requires { ⌜ (from + n ≤ 1024) × (i < 16) ⌝ }
+    ensures { λ r. ⌜ r ≡ wordOf (λ k. cond (within from n (i * 64 + k)) on (bitOf word k)) 64 ⌝ }
+{
+    let start = i * 64;
+    let upto = bits_below(start, from + n);
+    let before = bits_below(start, from);
+    let run = upto ^ before;
+    let set = word | run;
+    if on {
+        return set;
+    }
+    set ^ run
+}
+
+// The n blocks from `from` on are set or not, where they lie.
+pub fn with_run(words: &mut [u64], from: usize, n: usize, on: bool)
+    requires { ⌜ (length (now words) ≡ 16) × (from + n ≤ 1024) ⌝ }
+    ensures { λ _. ⌜ now (words .exit) ≡ tableOf (λ b. cond (within from n b) on (bitAt (now (words .entry)) b)) ⌝ }
+{
+    let end = from + n;
+    let mut i = from / 64;
+    while i * 64 < end {
+        let word = words[i];
+        let turned = word_with(word, i, from, n, on);
+        words[i] = turned;
+        i += 1;
+    }
+}
+
+// No block is set any longer.
+pub fn clear(words: &mut [u64])
+    requires { ⌜ length (now words) ≡ 16 ⌝ }
+    ensures { λ _. ⌜ now (words .exit) ≡ replicate 16 0 ⌝ }
+{
+    with_run(words, 0, 1024, false);
+}
+
+// Are the n blocks from `from` on all set, or all not set? Then turning them so changes no word.
+fn run_is(words: &[u64], from: usize, n: usize, on: bool) -> bool
+    requires { ⌜ (length (now words) ≡ 16) × (from + n ≤ 1024) ⌝ }
+    ensures { λ r. ⌜ r ≡ eqb (heldIn (now (words .entry)) from n) (cond on n 0) ⌝ }
+{
+    let end = from + n;
+    let mut i = from / 64;
+    while i * 64 < end {
+        let word = words[i];
+        let turned = word_with(word, i, from, n, on);
+        if turned != word {
+            return false;
+        }
+        i += 1;
+    }
+    true
+}
+
+// Is none of the n blocks from `from` on set?
+pub fn none_set(words: &[u64], from: usize, n: usize) -> bool
+    requires { ⌜ (length (now words) ≡ 16) × (from + n ≤ 1024) ⌝ }
+    ensures { λ r. ⌜ r ≡ eqb (heldIn (now (words .entry)) from n) 0 ⌝ }
+{
+    run_is(words, from, n, false)
+}
+
+// Is each of the n blocks from `from` on set?
+pub fn all_set(words: &[u64], from: usize, n: usize) -> bool
+    requires { ⌜ (length (now words) ≡ 16) × (from + n ≤ 1024) ⌝ }
+    ensures { λ r. ⌜ r ≡ eqb (heldIn (now (words .entry)) from n) n ⌝ }
+{
+    run_is(words, from, n, true)
+}
+
+// How many bits of a word are set.
+fn ones(word: u64) -> u64
+    ensures { λ r. ⌜ (r ≡ bitsIn word 64) × (r ≤ 64) ⌝ }
+{
+    let mut count: u64 = 0;
+    for k in 0..64u64 {
+        if (word >> k) % 2 == 1 {
+            count += 1;
+        }
+    }
+    count
+}
+
+// How many blocks are set.
+pub fn total(words: &[u64]) -> u64
+    requires { ⌜ length (now words) ≡ 16 ⌝ }
+    ensures { λ r. ⌜ (r ≡ setIn (now (words .entry)) 16) × (r ≤ 1024) ⌝ }
+{
+    let mut count: u64 = 0;
+    for i in 0..16usize {
+        let word = words[i];
+        if word != 0 {
+            count += ones(word);
+        }
+    }
+    count
+}
+
+// Is every block that is set below n?
+pub fn only_below(words: &[u64], n: usize) -> bool
+    requires { ⌜ (length (now words) ≡ 16) × (n ≤ 1024) ⌝ }
+    ensures { λ r. ⌜ r ≡ onlyBelow (now (words .entry)) n ⌝ }
+{
+    for i in 0..16usize {
+        let word = words[i];
+        let start = i * 64;
+        if n <= start {
+            if word != 0 {
+                return false;
+            }
+        } else if n - start < 64 {
+            let k = (n - start) as u64;
+            if (word >> k) != 0 {
+                return false;
+            }
+        }
+    }
+    true
+}
+
+// Is every block that is set also set in the other table?
+pub fn part_of(words: &[u64], whole: &[u64]) -> bool
+    requires { ⌜ (length (now words) ≡ 16) × (length (now whole) ≡ 16) ⌝ }
+    ensures { λ r. ⌜ r ≡ partOf (now (words .entry)) (now (whole .entry)) ⌝ }
+{
+    for i in 0..16usize {
+        let word = words[i];
+        if (word & whole[i]) != word {
+            return false;
+        }
+    }
+    true
+}

@@ -1,0 +1,159 @@
+// Reach: an element's bytes, range by range, and in a managed range by runs of blocks.
+ghost use mathlib.Core.Path.{_≡_};
+ghost use mathlib.Core.Bool.{true};
+ghost use Prim.Native.Nat.{ℕ, _+_, _≤_, _<_, min};
+ghost use lib.ListN.{length};
+ghost use Rattle.device_words.specs.Device.{pluggedIn};
+ghost use Rattle.map_records.specs.Words.{viewOf};
+ghost use Rattle.guest_view.specs.Guest.{viewGuest, allReach};
+ghost use Rattle.guest_view.specs.Contracts.{Judged, Extends, Reaches};
+use crate::find::near;
+use crate::place::offset_in;
+use device_words::device::block_of;
+use device_words::table::all_set;
+use device_words::table::is_in;
+use map_records::map::GuestAddress;
+use map_records::map::MANAGED;
+use map_records::map::RAM;
+use map_records::map::RegionOffset;
+use map_records::words::count_of;
+use map_records::words::range_at;
+
+// How far bytes are reachable from one on.
+pub enum Extent {
+    // The byte is, and so are this many after it.
+    Go(u64),
+    // The byte is not.
+    Stop,
+}
+
+fn nearer(a: u64, b: u64) -> u64
+    ensures { λ r. ⌜ r ≡ min a b ⌝ }
+{
+    if b < a { b } else { a }
+}
+
+// Is the byte at an offset of the managed region in a plugged block? The table has 1,024.
+pub fn is_plugged(block: u64, plugged: &[u64], offset: RegionOffset) -> bool
+    requires { ⌜ (0 < block) × (length (now plugged) ≡ 16) ⌝ }
+    ensures { λ r. ⌜ r ≡ pluggedIn block (now (plugged .entry)) (offset .0) ⌝ }
+{
+    if offset.0 / block < 1024 {
+        let number = block_of(block, offset);
+        return is_in(plugged, number.0 as usize);
+    }
+    false
+}
+
+// Are the blocks of the bytes from an offset on plugged, up to `more` bytes after it?
+fn run_plugged(block: u64, plugged: &[u64], offset: RegionOffset, more: u64) -> bool
+    requires { ⌜ (0 < block) × (length (now plugged) ≡ 16) ⌝ }
+    requires { ⌜ offset .0 + more < 281474976710656 ⌝ }
+    ensures { λ r. ⌜ (r ≡ true → (e : ℕ) → e ≤ more → pluggedIn block (now (plugged .entry)) (offset .0 + e) ≡ true) ⌝ }
+{
+    let end = RegionOffset(offset.0 + more);
+    if end.0 / block < 1024 {
+        let first = block_of(block, offset);
+        let last = block_of(block, end);
+        let count = (last.0 - first.0) as usize + 1;
+        return all_set(plugged, first.0 as usize, count);
+    }
+    false
+}
+
+// From an offset of a region of a kind on, for at most `span` bytes after it: RAM to the end; a plugged
+// block to its last byte, or as far as bytes are wanted where all their blocks are plugged.
+fn how_far(
+    block: u64,
+    plugged: &[u64],
+    kind: u64,
+    offset: RegionOffset,
+    span: u64,
+    wanted: u64,
+) -> Extent
+    requires { ⌜ (0 < block) × (length (now plugged) ≡ 16) ⌝ }
+    requires { ⌜ offset .0 + span < 281474976710656 ⌝ }
+    ensures { λ r. ⌜ Extends (pluggedIn block (now (plugged .entry))) kind (offset .0) span r ⌝ }
+{
+    if kind == RAM {
+        return Extent::Go(span);
+    }
+    if kind == MANAGED {
+        let far = nearer(span, wanted);
+        if run_plugged(block, plugged, offset, far) {
+            return Extent::Go(far);
+        }
+        if is_plugged(block, plugged, offset) {
+            let left = block - 1 - offset.0 % block;
+            return Extent::Go(nearer(left, span));
+        }
+        return Extent::Stop;
+    }
+    Extent::Stop
+}
+
+// From an address on, as far as its range goes. The hint's range is tried first.
+fn extent_at(
+    view: &[u64],
+    block: u64,
+    plugged: &[u64],
+    hint: usize,
+    a: GuestAddress,
+    wanted: u64,
+) -> Extent
+    requires { ⌜ Judged (now view) ⌝ }
+    requires { ⌜ (0 < block) × (length (now plugged) ≡ 16) ⌝ }
+    ensures { λ r. ⌜ Reaches (viewGuest (viewOf (now (view .entry))) block (now (plugged .entry)) .reach) (a .0) r ⌝ }
+{
+    let at = near(view, hint, a);
+    if count_of(view) <= at {
+        return Extent::Stop;
+    }
+    let range = range_at(view, at);
+    let offset = offset_in(range, a);
+    how_far(
+        block,
+        plugged,
+        range.kind,
+        offset,
+        range.last.0 - a.0,
+        wanted,
+    )
+}
+
+// Is each of the bytes from an address on reachable? None wraps.
+pub fn reaches(
+    view: &[u64],
+    block: u64,
+    plugged: &[u64],
+    hint: usize,
+    addr: GuestAddress,
+    count: u64,
+) -> bool
+    requires { ⌜ Judged (now view) ⌝ }
+    requires { ⌜ (0 < block) × (length (now plugged) ≡ 16) ⌝ }
+    ensures { λ r. ⌜ r ≡ allReach (viewGuest (viewOf (now (view .entry))) block (now (plugged .entry)) .reach) (addr .0) count ⌝ }
+{
+    if count == 0 {
+        return true;
+    }
+    if 18446744073709551615 - addr.0 < count - 1 {
+        return false;
+    }
+    let mut done: u64 = 0;
+    while done < count {
+        let here = GuestAddress(addr.0 + done);
+        match extent_at(view, block, plugged, hint, here, count - done - 1) {
+            Extent::Stop => {
+                return false;
+            }
+            Extent::Go(more) => {
+                if count - done - 1 <= more {
+                    return true;
+                }
+                done = done + more + 1;
+            }
+        }
+    }
+    true
+}

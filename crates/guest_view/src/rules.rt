@@ -1,0 +1,129 @@
+// 27 for a given flat view.
+ghost use mathlib.Core.Path.{_≡_};
+ghost use mathlib.Core.Bool.{_&&_};
+ghost use Prim.Native.Nat.{ℕ, _+_, _≤_, _<_};
+ghost use lib.Dec.{ltb};
+ghost use lib.ListN.{length};
+ghost use Rattle.map_records.specs.View.{rangeOf, lastOffset};
+ghost use Rattle.device_words.specs.Table.{allBelow};
+ghost use Rattle.map_records.specs.Words.{viewOf};
+ghost use Rattle.guest_view.specs.View.{kindOk, memoryOk, managedOk, rangeOk, pairOk, viewOk};
+ghost use Rattle.guest_view.specs.Contracts.{Owner};
+use crate::place::offset_in;
+use map_records::map::MANAGED;
+use map_records::map::MMIO;
+use map_records::map::RAM;
+use map_records::view::FlatRange;
+use map_records::words::count_of;
+use map_records::words::range_at;
+
+// Addresses and offsets end here: 2^48.
+const LIMIT: u64 = 281474976710656;
+
+// Is the sum below the limit? It never wraps.
+fn sum_below(a: u64, b: u64, limit: u64) -> bool
+    ensures { λ r. ⌜ r ≡ ltb (a + b) limit ⌝ }
+{
+    if limit <= b {
+        return false;
+    }
+    a < limit - b
+}
+
+// The kind of a range, whose last offset is `there`, and where its bytes lie.
+fn backing_ok(range: FlatRange, there: u64, memory: u64, region: u64) -> bool
+    requires { ⌜ there ≡ lastOffset range ⌝ }
+    ensures { λ r. ⌜ r ≡ (kindOk range && (memoryOk memory range && managedOk region range)) ⌝ }
+{
+    let kind = range.kind;
+    if kind == MMIO {
+        return true;
+    }
+    if kind != RAM {
+        if kind != MANAGED {
+            return false;
+        }
+        if region <= there {
+            return false;
+        }
+    }
+    sum_below(range.base, there, memory)
+}
+
+// One range by itself.
+fn range_ok(range: FlatRange, memory: u64, region: u64) -> bool
+    ensures { λ r. ⌜ r ≡ rangeOk memory region range ⌝ }
+{
+    if range.last.0 < range.first.0 {
+        return false;
+    }
+    if LIMIT <= range.last.0 {
+        return false;
+    }
+    if LIMIT <= range.offset.0 {
+        return false;
+    }
+    let there = offset_in(range, range.last);
+    if LIMIT <= there.0 {
+        return false;
+    }
+    if 31 < range.region {
+        return false;
+    }
+    backing_ok(range, there.0, memory, region)
+}
+
+// Range k with those before it, of which the last and the first of its region stand for all: `first` is 1 + that one's
+// number, or 0 where there is none.
+fn pairs_ok(view: &[u64], range: FlatRange, first: usize, k: usize) -> bool
+    requires { ⌜ length (now view) ≡ 1537 ⌝ }
+    requires { ⌜ (k < 256) × (range ≡ rangeOf (viewOf (now view)) k) ⌝ }
+    requires { ⌜ Owner (viewOf (now view)) k (range .region) first ⌝ }
+    requires { ⌜ ((i j : ℕ) → i < j → j < k → rangeOf (viewOf (now view)) i .last .0 < rangeOf (viewOf (now view)) j .first .0) ⌝ }
+    requires { ⌜ ((j : ℕ) → j < k → rangeOf (viewOf (now view)) j .first .0 ≤ rangeOf (viewOf (now view)) j .last .0) ⌝ }
+    ensures { λ r. ⌜ r ≡ allBelow (λ j. pairOk (rangeOf (viewOf (now (view .entry))) j) (rangeOf (viewOf (now (view .entry))) k)) k ⌝ }
+{
+    if k == 0 {
+        return true;
+    }
+    let before = range_at(view, k - 1);
+    if range.first.0 <= before.last.0 {
+        return false;
+    }
+    if first == 0 {
+        return true;
+    }
+    let other = range_at(view, first - 1);
+    (other.kind == range.kind) & (other.base == range.base)
+}
+
+// Does a given view keep 27's rules, over a memory and a managed region of these lengths?
+pub fn view_ok(view: &[u64], memory: u64, region: u64) -> bool
+    ensures { λ r. ⌜ r ≡ viewOk (viewOf (now (view .entry))) memory region ⌝ }
+{
+    if view.len() != 1537 {
+        return false;
+    }
+    let count = count_of(view);
+    if 256 < count {
+        return false;
+    }
+    let mut owner = [0usize; 32];
+    let mut k: usize = 0;
+    while k < count {
+        let range = range_at(view, k);
+        if !range_ok(range, memory, region) {
+            return false;
+        }
+        let n = range.region;
+        let first = owner[n];
+        if !pairs_ok(view, range, first, k) {
+            return false;
+        }
+        if first == 0 {
+            owner[n] = k + 1;
+        }
+        k += 1;
+    }
+    true
+}

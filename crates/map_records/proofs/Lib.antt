@@ -1,0 +1,4 @@
+pub mod Order
+pub mod StoreLaws
+pub mod GroupLaws
+pub mod WordLaws

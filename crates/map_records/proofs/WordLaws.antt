@@ -1,0 +1,225 @@
+-- Laws of a map and of a view as words: what stands for their counts, regions and ranges, words of another number, one region or range stored, and the words back. Assumes nothing.
+use mathlib.Core.Path.{_≡_, refl, sym, ap, _∙_}
+use mathlib.Core.Logic.{⊎-elim}
+use mathlib.Core.List.{List, [], _∷_, _++_, append-nil}
+use Prim.Native.Nat.{ℕ, zero, suc, _+_, _*_, _≤_, _<_}
+use native.Mathlib.Nat.{add-zero, add-suc}
+use native.Mathlib.Omega.{arith}
+use lib.ListN.{length, set, take, drop, getD, replicate, length-replicate, length-set, drop-of-length-le}
+use lib.Seq.{sets, drop-cons, length-sets, getD-set-same, getD-set-other}
+use borrow.Author.Tests.{eq-eqb, ne-eqb}
+use Rattle.map_records.specs.Map.{noRegion, region, emptyMap}
+use Rattle.map_records.specs.View.{noRange, rangeOf}
+use Rattle.map_records.specs.Words.{regionAt, regionsAt, mapOf, regionWords, regionsWords, mapWords, rangeAt, rangesAt, noView, viewOf, rangeWords, rangesWords, viewWords}
+use Rattle.map_records.specs.declared.map.Region.{Region}
+use Rattle.map_records.specs.declared.map.RegionMap.{RegionMap}
+use Rattle.map_records.specs.declared.view.FlatRange.{FlatRange}
+use Rattle.map_records.specs.declared.view.FlatView.{FlatView}
+use Rattle.map_records.proofs.StoreLaws.{sets-below}
+use Rattle.map_records.proofs.Order.{eq-or-not}
+use Rattle.map_records.proofs.GroupLaws.{Grouped, groups-length, group-at, stored-group, reads-same, reads-blank, words-back}
+
+-- ---- the words read one by one
+abbrev listed : List ℕ → ℕ → ℕ → ℕ → List ℕ
+listed w at j zero = []
+listed w at j (suc n) = getD w (at + j) 0 ∷ listed w at (suc j) n
+
+listed-take : (w : List ℕ) (at j n : ℕ) → at + j + n ≤ length w → listed w at j n ≡ take n (drop (at + j) w)
+listed-take w at j zero h = refl
+listed-take w at j (suc n) h =
+    let e : at + suc j ≡ suc (at + j) = omega arith in
+    rw (drop-cons w (at + j) 0 (omega arith)) (ap (λ (l : List ℕ). getD w (at + j) 0 ∷ l) (listed-take w at (suc j) n (omega arith) ∙ ap (λ (i : ℕ). take n (drop i w)) e))
+
+first-word : (w : List ℕ) (at : ℕ) → getD w at 0 ≡ getD w (at + 0) 0
+first-word w at = ap (λ (k : ℕ). getD w k 0) (sym (add-zero at))
+
+-- ---- regions are groups of nine words
+region-same : (w v : List ℕ) (at : ℕ) → ((j : ℕ) → j < 9 → getD w (at + j) 0 ≡ getD v (at + j) 0) → regionAt w at ≡ regionAt v at
+region-same w v at h = λ i.
+    record {
+      kind = (first-word w at ∙ h 0 (omega arith) ∙ sym (first-word v at)) i;
+      parent = h 1 (omega arith) i;
+      offset = h 2 (omega arith) i;
+      size = h 3 (omega arith) i;
+      priority = h 4 (omega arith) i;
+      «memory_start» = h 5 (omega arith) i;
+      port = h 6 (omega arith) i;
+      target = h 7 (omega arith) i;
+      «alias_offset» = h 8 (omega arith) i;
+    }
+
+region-back : (w : List ℕ) (at : ℕ) (x : Region) → ((j : ℕ) → j < 9 → getD w (at + j) 0 ≡ getD (regionWords x) j 0) → regionAt w at ≡ x
+region-back w at x h = λ i.
+    record {
+      kind = (first-word w at ∙ h 0 (omega arith)) i;
+      parent = h 1 (omega arith) i;
+      offset = h 2 (omega arith) i;
+      size = h 3 (omega arith) i;
+      priority = h 4 (omega arith) i;
+      «memory_start» = h 5 (omega arith) i;
+      port = h 6 (omega arith) i;
+      target = h 7 (omega arith) i;
+      «alias_offset» = h 8 (omega arith) i;
+    }
+
+region-words-of : (w : List ℕ) (at : ℕ) → at + 9 ≤ length w → regionWords (regionAt w at) ≡ take 9 (drop at w)
+region-words-of w at h =
+    (λ i. first-word w at i ∷ listed w at 1 8) ∙ listed-take w at 0 9 (omega (arith, add-zero at)) ∙ ap (λ (k : ℕ). take 9 (drop k w)) (add-zero at)
+
+pub regions-grouped : Grouped regionAt regionsAt regionWords regionsWords 9
+unfolding regionsAt regionsWords
+regions-grouped =
+    record {
+      none = λ w at. refl;
+      more = λ w at n. refl;
+      «put-none» = refl;
+      «put-more» = λ x xs. refl;
+      size = λ x. refl;
+      same = region-same;
+      back = region-back;
+      words = region-words-of;
+    }
+
+-- ---- ranges are groups of six
+range-same : (w v : List ℕ) (at : ℕ) → ((j : ℕ) → j < 6 → getD w (at + j) 0 ≡ getD v (at + j) 0) → rangeAt w at ≡ rangeAt v at
+range-same w v at h = λ i.
+    record {
+      first = record { 0 = (first-word w at ∙ h 0 (omega arith) ∙ sym (first-word v at)) i };
+      last = record { 0 = h 1 (omega arith) i };
+      region = h 2 (omega arith) i;
+      offset = record { 0 = h 3 (omega arith) i };
+      kind = h 4 (omega arith) i;
+      base = h 5 (omega arith) i;
+    }
+
+range-back : (w : List ℕ) (at : ℕ) (x : FlatRange) → ((j : ℕ) → j < 6 → getD w (at + j) 0 ≡ getD (rangeWords x) j 0) → rangeAt w at ≡ x
+range-back w at x h = λ i.
+    record {
+      first = record { 0 = (first-word w at ∙ h 0 (omega arith)) i };
+      last = record { 0 = h 1 (omega arith) i };
+      region = h 2 (omega arith) i;
+      offset = record { 0 = h 3 (omega arith) i };
+      kind = h 4 (omega arith) i;
+      base = h 5 (omega arith) i;
+    }
+
+range-words-of : (w : List ℕ) (at : ℕ) → at + 6 ≤ length w → rangeWords (rangeAt w at) ≡ take 6 (drop at w)
+range-words-of w at h =
+    (λ i. first-word w at i ∷ listed w at 1 5) ∙ listed-take w at 0 6 (omega (arith, add-zero at)) ∙ ap (λ (k : ℕ). take 6 (drop k w)) (add-zero at)
+
+pub ranges-grouped : Grouped rangeAt rangesAt rangeWords rangesWords 6
+unfolding rangesAt rangesWords
+ranges-grouped =
+    record {
+      none = λ w at. refl;
+      more = λ w at n. refl;
+      «put-none» = refl;
+      «put-more» = λ x xs. refl;
+      size = λ x. refl;
+      same = range-same;
+      back = range-back;
+      words = range-words-of;
+    }
+
+-- ---- the map that 289 words stand for, and words of another number
+module _ (w : List ℕ) (size : length w ≡ 289) where
+  map-words : mapOf w ≡ record { count = getD w 0 0; regions = regionsAt w 1 32 }
+  unfolding mapOf
+  map-words = rw (eq-eqb (length w) 289 size)
+
+  pub region-count-words : mapOf w .count ≡ getD w 0 0
+  region-count-words = ap (λ (m : RegionMap). m .count) map-words
+
+  pub region-words : (k : ℕ) → k < 32 → region (mapOf w) k ≡ regionAt w (1 + 9 * k)
+  region-words k h = ap (λ (m : RegionMap). region m k) map-words ∙ group-at regions-grouped w 1 32 k noRegion h
+
+  -- the words of the map are the words that stand for it
+  pub map-back : mapWords (mapOf w) ≡ w
+  unfolding mapWords
+  map-back =
+      ap mapWords map-words
+      ∙ sym (drop-cons w 0 0 (omega arith)
+      ∙ ap (λ (l : List ℕ). getD w 0 0 ∷ l)
+      (words-back regions-grouped w 1 32 (omega arith) ∙ rw (drop-of-length-le w {i = 289} (omega arith)) (append-nil (regionsWords (regionsAt w 1 32)))))
+
+pub map-other : (w : List ℕ) → (length w ≡ 289 → ⊥) → mapOf w ≡ emptyMap
+unfolding mapOf
+map-other w other = rw (ne-eqb (length w) 289 other)
+
+-- ---- the view that 1,537 words stand for, and words of another number
+module _ (w : List ℕ) (size : length w ≡ 1537) where
+  view-words : viewOf w ≡ record { count = getD w 0 0; ranges = rangesAt w 1 256 }
+  unfolding viewOf
+  view-words = rw (eq-eqb (length w) 1537 size)
+
+  pub count-words : viewOf w .count ≡ getD w 0 0
+  count-words = ap (λ (v : FlatView). v .count) view-words
+
+  pub range-words : (k : ℕ) → k < 256 → rangeOf (viewOf w) k ≡ rangeAt w (1 + 6 * k)
+  range-words k h = ap (λ (v : FlatView). rangeOf v k) view-words ∙ group-at ranges-grouped w 1 256 k noRange h
+
+  pub view-back : viewWords (viewOf w) ≡ w
+  unfolding viewWords
+  view-back =
+      ap viewWords view-words
+      ∙ sym (drop-cons w 0 0 (omega arith)
+      ∙ ap (λ (l : List ℕ). getD w 0 0 ∷ l)
+      (words-back ranges-grouped w 1 256 (omega arith) ∙ rw (drop-of-length-le w {i = 1537} (omega arith)) (append-nil (rangesWords (rangesAt w 1 256)))))
+
+pub view-other : (w : List ℕ) → (length w ≡ 1537 → ⊥) → viewOf w ≡ noView
+unfolding viewOf
+view-other w other = rw (ne-eqb (length w) 1537 other)
+
+pub full-words : (w : List ℕ) → length (viewOf w .ranges) ≡ 256
+full-words w =
+    ⊎-elim (λ e. ap (λ (v : FlatView). length (v .ranges)) (view-words w e) ∙ groups-length ranges-grouped w 1 256)
+    (λ ne. ap (λ (v : FlatView). length (v .ranges)) (view-other w ne) ∙ length-replicate 256 noRange) (eq-or-not (length w) 1537)
+
+-- ---- one region or range stored, or the count
+module _ (w : List ℕ) (size : length w ≡ 289) where
+  pub region-stored : (i : ℕ) (x : Region) → i < 32 → mapOf (sets w (1 + 9 * i) (regionWords x)) ≡ record { count = mapOf w .count; regions = set (mapOf w .regions) i x }
+  region-stored i x h =
+      map-words (sets w (1 + 9 * i) (regionWords x)) (length-sets w (1 + 9 * i) (regionWords x) ∙ size)
+      ∙ (λ j. record { count = (sets-below w (1 + 9 * i) (regionWords x) 0 (omega arith) ∙ sym (region-count-words w size)) j; regions = (stored-group regions-grouped w 1 32 i x h (omega arith) ∙ ap (λ (m : RegionMap). set (m .regions) i x) (sym (map-words w size))) j })
+
+module _ (w : List ℕ) (size : length w ≡ 1537) where
+  pub range-stored : (i : ℕ) (x : FlatRange) → i < 256 → viewOf (sets w (1 + 6 * i) (rangeWords x)) ≡ record { count = viewOf w .count; ranges = set (viewOf w .ranges) i x }
+  range-stored i x h =
+      view-words (sets w (1 + 6 * i) (rangeWords x)) (length-sets w (1 + 6 * i) (rangeWords x) ∙ size)
+      ∙ (λ j. record { count = (sets-below w (1 + 6 * i) (rangeWords x) 0 (omega arith) ∙ sym (count-words w size)) j; ranges = (stored-group ranges-grouped w 1 256 i x h (omega arith) ∙ ap (λ (v : FlatView). set (v .ranges) i x) (sym (view-words w size))) j })
+
+-- ---- a count stored
+behind-first : (w : List ℕ) (n j : ℕ) → 1 ≤ j → getD (set w 0 n) j 0 ≡ getD w j 0
+behind-first w n j h = getD-set-other w 0 j n 0 (λ e. omega arith)
+
+pub region-count-stored : (w : List ℕ) → length w ≡ 289 → (n : ℕ) → mapOf (set w 0 n) ≡ record { count = n; regions = mapOf w .regions }
+region-count-stored w size n =
+    map-words (set w 0 n) (length-set w 0 n ∙ size)
+    ∙ (λ j. record { count = getD-set-same w 0 n 0 (omega arith) j; regions = (reads-same regions-grouped (set w 0 n) w 1 32 (behind-first w n) ∙ ap (λ (m : RegionMap). m .regions) (sym (map-words w size))) j })
+
+pub count-stored : (w : List ℕ) → length w ≡ 1537 → (n : ℕ) → viewOf (set w 0 n) ≡ record { count = n; ranges = viewOf w .ranges }
+count-stored w size n =
+    view-words (set w 0 n) (length-set w 0 n ∙ size)
+    ∙ (λ j. record { count = getD-set-same w 0 n 0 (omega arith) j; ranges = (reads-same ranges-grouped (set w 0 n) w 1 256 (behind-first w n) ∙ ap (λ (v : FlatView). v .ranges) (sym (view-words w size))) j })
+
+-- ---- words that are all zero
+zero-words : (n j : ℕ) → getD (replicate {A = ℕ} n 0) j 0 ≡ 0
+zero-words zero j = refl
+zero-words (suc n) zero = refl
+zero-words (suc n) (suc j) = zero-words n j
+
+blank-range : (j : ℕ) → j < 6 → getD (rangeWords noRange) j 0 ≡ 0
+blank-range j h = zero-words 6 j
+
+blank-region : (j : ℕ) → j < 9 → getD (regionWords noRegion) j 0 ≡ 0
+blank-region j h = zero-words 9 j
+
+pub empty-words : viewOf (replicate 1537 0) ≡ record { count = 0; ranges = replicate 256 noRange }
+empty-words =
+    view-words (replicate 1537 0) (length-replicate {A = ℕ} 1537 0)
+    ∙ (λ j. record { count = zero-words 1537 0 j; ranges = reads-blank ranges-grouped (replicate 1537 0) 1 256 noRange blank-range (zero-words 1537) j })
+
+pub empty-map-words : mapOf (replicate 289 0) ≡ emptyMap
+empty-map-words =
+    map-words (replicate 289 0) (length-replicate {A = ℕ} 289 0)
+    ∙ (λ j. record { count = zero-words 289 0 j; regions = reads-blank regions-grouped (replicate 289 0) 1 32 noRegion blank-region (zero-words 289) j })

@@ -1,0 +1,80 @@
+-- Which map and which view words stand for, and the words of each. Assumes nothing: these are definitions.
+use mathlib.Core.Bool.{cond}
+use mathlib.Core.List.{List, [], _∷_, _++_}
+use Prim.Native.Nat.{ℕ, zero, suc, _+_}
+use lib.Dec.{eqb}
+use lib.ListN.{length, getD, replicate}
+use Rattle.map_records.specs.Map.{emptyMap}
+use Rattle.map_records.specs.View.{noRange}
+use Rattle.map_records.specs.declared.map.Region.{Region}
+use Rattle.map_records.specs.declared.map.RegionMap.{RegionMap}
+use Rattle.map_records.specs.declared.view.FlatRange.{FlatRange}
+use Rattle.map_records.specs.declared.view.FlatView.{FlatView}
+
+-- the nine words of a region
+abbrev pub regionAt : List ℕ → ℕ → Region
+regionAt w at =
+    record {
+      kind = getD w at 0;
+      parent = getD w (at + 1) 0;
+      offset = getD w (at + 2) 0;
+      size = getD w (at + 3) 0;
+      priority = getD w (at + 4) 0;
+      «memory_start» = getD w (at + 5) 0;
+      port = getD w (at + 6) 0;
+      target = getD w (at + 7) 0;
+      «alias_offset» = getD w (at + 8) 0;
+    }
+
+unfoldable pub regionsAt : List ℕ → ℕ → ℕ → List Region
+regionsAt w at zero = []
+regionsAt w at (suc n) = regionAt w at ∷ regionsAt w (at + 9) n
+
+-- a map of 289 words: the count, and 32 regions of 9; words of another number stand for the map of no regions, which 3 refuses
+unfoldable pub mapOf : List ℕ → RegionMap
+mapOf w = cond (eqb (length w) 289) (record { count = getD w 0 0; regions = regionsAt w 1 32 }) emptyMap
+
+abbrev pub regionWords : Region → List ℕ
+regionWords r =
+    r .kind ∷ r .parent ∷ r .offset ∷ r .size ∷ r .priority ∷ r .«memory_start» ∷ r .port ∷ r .target ∷ r .«alias_offset» ∷ []
+
+unfoldable pub regionsWords : List Region → List ℕ
+regionsWords [] = []
+regionsWords (r ∷ rs) = regionWords r ++ regionsWords rs
+
+unfoldable pub mapWords : RegionMap → List ℕ
+mapWords m = m .count ∷ regionsWords (m .regions)
+
+-- the six words of a range
+abbrev pub rangeAt : List ℕ → ℕ → FlatRange
+rangeAt w at =
+    record {
+      first = record { 0 = getD w at 0 };
+      last = record { 0 = getD w (at + 1) 0 };
+      region = getD w (at + 2) 0;
+      offset = record { 0 = getD w (at + 3) 0 };
+      kind = getD w (at + 4) 0;
+      base = getD w (at + 5) 0;
+    }
+
+unfoldable pub rangesAt : List ℕ → ℕ → ℕ → List FlatRange
+rangesAt w at zero = []
+rangesAt w at (suc n) = rangeAt w at ∷ rangesAt w (at + 6) n
+
+-- what words of another number stand for: a view that 27 refuses, 'over 256'
+abbrev pub noView : FlatView
+noView = record { count = 257; ranges = replicate 256 noRange }
+
+-- a view of 1,537 words: the count, and 256 ranges of 6
+unfoldable pub viewOf : List ℕ → FlatView
+viewOf w = cond (eqb (length w) 1537) (record { count = getD w 0 0; ranges = rangesAt w 1 256 }) noView
+
+abbrev pub rangeWords : FlatRange → List ℕ
+rangeWords r = r .first .0 ∷ r .last .0 ∷ r .region ∷ r .offset .0 ∷ r .kind ∷ r .base ∷ []
+
+unfoldable pub rangesWords : List FlatRange → List ℕ
+rangesWords [] = []
+rangesWords (r ∷ rs) = rangeWords r ++ rangesWords rs
+
+unfoldable pub viewWords : FlatView → List ℕ
+viewWords v = v .count ∷ rangesWords (v .ranges)

@@ -1,0 +1,228 @@
+-- Laws of the calls on a device's words, and of those on a record by value. Assumes nothing.
+use mathlib.Core.Path.{_≡_, refl, sym, ap, _∙_}
+use mathlib.Core.Bool.{Bool, true, false, cond, _&&_, _||_, not}
+use mathlib.Core.List.{List, [], _∷_, _++_}
+use mathlib.Core.Logic.{_⊎_, inl, inr, ⊎-elim}
+use Prim.Native.Nat.{ℕ, _<_, max}
+use native.Mathlib.Omega.{arith}
+use lib.Dec.{eqb}
+use lib.ListN.{length, take, drop, set}
+use borrow.Author.Tests.{eq-eqb, ne-eqb, eqb-true, eqb-false}
+use Rattle.region_map.specs.Reply.{Reply, accepted, plain, passes}
+use Rattle.region_map.proofs.Bools.{never, and-off}
+use Rattle.device_words.specs.Table.{bitAt, within}
+use Rattle.device_words.specs.Device.{MemoryDevice, pinnedIn, isPinned, noBlocks, withPlugged, withPins, withPin, fresh, deviceOk, Valid}
+use Rattle.device_words.specs.Request.{plug, unplug, unplugAll, blockOf, withRun, acknowledged, answered, isAck, changedBy, requestOf, carriedOut, Outcome as Carried}
+use Rattle.device_words.specs.Words.{isDevice, deviceAt, deviceOf, deviceWords}
+use Rattle.device_words.specs.declared.request.Request.{Request}
+use Rattle.device_words.specs.declared.request.Response.{Response}
+use Rattle.device_words.proofs.TableLaws.{table-length, past-bit}
+use Rattle.map_records.proofs.Order.{side}
+use Rattle.device_words.proofs.DeviceWords.{device-at, device-none, halves, plug-stored, pins-stored, words-length, record-back, plugged-length, pins-length, ok-length, ok-device, not-device}
+use Rattle.device_words.proofs.RuleLaws.{device-valid}
+use Rattle.memory_device.specs.Record.{Outcome, hostReply}
+use Rattle.memory_device.specs.Host.{refusal, done, ifOk, withRequested, configurationOf, Read, configuredInto}
+use Rattle.memory_device.specs.Request.{carriedInto}
+use Rattle.memory_device.specs.Lent.{leaves, Left}
+use Rattle.memory_device.specs.declared.device.HostAnswer.{HostAnswer}
+use Rattle.memory_device.specs.declared.device.HostAnswer.the-variants.{Done, Record}
+
+-- ---- a call on words: 27, then a fault of its own, then a change
+module _ (w : List ℕ) (x : Bool) (e : x ≡ (isDevice w && deviceOk (deviceOf w))) where
+  pub left-27 : (o : Outcome) → x ≡ false → Left (ifOk (deviceOf w) o) w Record w
+  left-27 o h = rw (not-device w x e h) (record { reply = refl; words = refl })
+
+  module _ (h : x ≡ true) where
+    pub sound-length : length w ≡ 37
+    sound-length = ok-length w x e h
+
+    pub sound : Valid (deviceAt w)
+    sound = rw (device-at w sound-length) at (device-valid (deviceOf w) (ok-device w x e h))
+
+    module _ (fault : MemoryDevice → Bool) (k : ℕ) (next : MemoryDevice → MemoryDevice) where
+      pub left-fault : (a : HostAnswer) → hostReply a ≡ plain k → fault (deviceAt w) ≡ true
+          → Left (ifOk (deviceOf w) (cond (fault (deviceOf w)) (refusal k (deviceOf w)) (done (next (deviceOf w))))) w a w
+      left-fault a r f = rw (ok-device w x e h, ap fault (device-at w sound-length) ∙ f) (record { reply = r; words = refl })
+
+      pub left-done : (w′ : List ℕ) → fault (deviceAt w) ≡ false → w′ ≡ deviceWords (next (deviceAt w))
+          → Left (ifOk (deviceOf w) (cond (fault (deviceOf w)) (refusal k (deviceOf w)) (done (next (deviceOf w))))) w Done w′
+      left-done w′ f p =
+          rw (ok-device w x e h, ap fault (device-at w sound-length) ∙ f)
+          (record { reply = refl; words = p ∙ ap (λ (d : MemoryDevice). deviceWords (next d)) (sym (device-at w sound-length)) })
+
+-- the test of a pin, and its refusal
+pub pin-test : (x y z : Bool) → (x && (y && not z)) ≡ not (not x || not y || z)
+pin-test true true true = refl
+pin-test true true false = refl
+pin-test true false true = refl
+pin-test true false false = refl
+pin-test false true true = refl
+pin-test false true false = refl
+pin-test false false true = refl
+pin-test false false false = refl
+
+-- ---- the words that the changes leave
+pub requested-stored : (w : List ℕ) (usable size : ℕ) → length w ≡ 37 → usable ≡ max (deviceAt w .«usable_size») size
+    → set (set w 3 usable) 4 size ≡ deviceWords (withRequested (deviceAt w) size)
+unfolding deviceWords
+requested-stored [] usable size l p = absurd (omega arith)
+requested-stored (a ∷ []) usable size l p = absurd (omega arith)
+requested-stored (a ∷ b ∷ []) usable size l p = absurd (omega arith)
+requested-stored (a ∷ b ∷ c ∷ []) usable size l p = absurd (omega arith)
+requested-stored (a ∷ b ∷ c ∷ d ∷ []) usable size l p = absurd (omega arith)
+requested-stored (a ∷ b ∷ c ∷ d ∷ e ∷ v) usable size l p =
+    ap (λ (u : ℕ). a ∷ b ∷ c ∷ u ∷ size ∷ v) p ∙ ap (λ (r : List ℕ). a ∷ b ∷ c ∷ max d size ∷ size ∷ r) (sym (halves v (omega arith)))
+
+pub cleared-stored : (w t u : List ℕ) → length w ≡ 37 → t ≡ noBlocks → u ≡ noBlocks
+    → take 21 (take 5 w ++ (t ++ drop 16 (drop 5 w))) ++ (u ++ drop 16 (drop 21 (take 5 w ++ (t ++ drop 16 (drop 5 w))))) ≡ deviceWords (fresh (deviceAt w))
+cleared-stored w t u l p q =
+    let d = withPlugged (deviceAt w) noBlocks in
+    let size = words-length d refl (pins-length w l) in
+    ap (λ (x : List ℕ). take 21 x ++ (u ++ drop 16 (drop 21 x))) (ap (λ (s : List ℕ). take 5 w ++ (s ++ drop 16 (drop 5 w))) p ∙ plug-stored w noBlocks l)
+    ∙ ap (λ (s : List ℕ). take 21 (deviceWords d) ++ (s ++ drop 16 (drop 21 (deviceWords d)))) q
+    ∙ pins-stored (deviceWords d) noBlocks size
+    ∙ ap (λ (m : MemoryDevice). deviceWords (withPins m noBlocks)) (sym (device-at (deviceWords d) size) ∙ record-back d refl (pins-length w l))
+
+-- ---- both tables of a record have sixteen words
+pub record Whole (d : MemoryDevice) : Type 0 where
+  pub plugged : length (d .plugged) ≡ 16
+  pub pins : length (d .pinned) ≡ 16
+
+pub whole-words : (w : List ℕ) → Whole (deviceOf w)
+whole-words w = go (eqb (length w) 37) refl
+  where
+    go : (x : Bool) → eqb (length w) 37 ≡ x → Whole (deviceOf w)
+    go true p = let l = eqb-true (length w) 37 p in rw (device-at w l) (record { plugged = plugged-length w l; pins = pins-length w l })
+    go false p = rw (device-none w (eqb-false (length w) 37 p)) (record { plugged = refl; pins = refl })
+
+-- ---- a call by value: the words of the record, the call on them, and the record read back
+-- a refusal gives the state back, and a next state has whole tables
+abbrev Fair : MemoryDevice → Reply → MemoryDevice → Type 0
+Fair d reply next = ((passes reply ≡ false) × (next ≡ d)) ⊎ ((passes reply ≡ true) × Whole next)
+
+read-back : (d : MemoryDevice) (reply : Reply) (next : MemoryDevice) (w w′ : List ℕ) → deviceOf w ≡ d → w′ ≡ leaves reply next w → Fair d reply next → deviceOf w′ ≡ next
+read-back d reply next w w′ e p f =
+    ⊎-elim
+    (λ (r : (passes reply ≡ false) × (next ≡ d)). ap deviceOf (p ∙ ap (λ (x : Bool). cond x (deviceWords next) w) (r .0)) ∙ e ∙ sym (r .1))
+    (λ (r : (passes reply ≡ true) × Whole next). ap deviceOf (p ∙ ap (λ (x : Bool). cond x (deviceWords next) w) (r .0)) ∙ record-back next (r .1 .plugged) (r .1 .pins))
+    f
+
+module _ (d : MemoryDevice) (w w′ : List ℕ) (a : HostAnswer) (m : MemoryDevice) (e : deviceOf w ≡ d) (g : m ≡ deviceOf w′) where
+  whole : Whole d
+  whole = rw e at (whole-words w)
+
+  -- what judges 27, then a fault, then changes: each next state is one of whole tables, where the given one has them
+  pub by-value : (fault : MemoryDevice → Bool) (k : ℕ) (next : MemoryDevice → MemoryDevice) → (Whole d → Whole (next d))
+      → Left (ifOk (deviceOf w) (cond (fault (deviceOf w)) (refusal k (deviceOf w)) (done (next (deviceOf w))))) w a w′
+      → _≡_ {A = Outcome} (record { reply = hostReply a; device = m }) (ifOk d (cond (fault d) (refusal k d) (done (next d))))
+  by-value fault k next f l =
+      let o = ifOk d (cond (fault d) (refusal k d) (done (next d))) in
+      let h : Left o w a w′ = rw e at l in
+      both (h .reply) (g ∙ read-back d (o .reply) (o .device) w w′ e (h .words) (fair (deviceOk d) (fault d)))
+    where
+      fair : (x y : Bool) → Fair d (cond x (cond y (refusal k d) (done (next d))) (refusal 27 d) .reply) (cond x (cond y (refusal k d) (done (next d))) (refusal 27 d) .device)
+      fair true true = inl (refl, refl)
+      fair true false = inr (refl, f whole)
+      fair false y = inl (refl, refl)
+
+      both : {r s : Reply} {x y : MemoryDevice} → r ≡ s → x ≡ y → _≡_ {A = Outcome} (record { reply = r; device = x }) (record { reply = s; device = y })
+      both p q = λ i. record { reply = p i; device = q i }
+
+-- the tables of the next states
+pub whole-requested : (d : MemoryDevice) (size : ℕ) → Whole d → Whole (withRequested d size)
+whole-requested d size h = record { plugged = h .plugged; pins = h .pins }
+
+pub whole-pinned : (d : MemoryDevice) (b : ℕ) (on : Bool) → Whole d → Whole (withPins d (withPin (d .pinned) b on))
+whole-pinned d b on h = record { plugged = h .plugged; pins = table-length (λ c. cond (within b 1 c) on (isPinned d c)) }
+
+pub whole-fresh : (d : MemoryDevice) → Whole d → Whole (fresh d)
+whole-fresh d h = record { plugged = refl; pins = refl }
+
+whole-changed : (d : MemoryDevice) (r : Request) (x : Response) → Whole d → Whole (changedBy d r x)
+unfolding changedBy
+whole-changed d r x h = go (isAck x)
+  where
+    ack : (p q s : Bool) → length (cond p (withRun d r true) (cond q (withRun d r false) (cond s noBlocks (d .plugged)))) ≡ 16
+    ack true q s = table-length (λ b. cond (within (blockOf d (r .addr .0)) (r .blocks) b) true (bitAt (d .plugged) b))
+    ack false true s = table-length (λ b. cond (within (blockOf d (r .addr .0)) (r .blocks) b) false (bitAt (d .plugged) b))
+    ack false false true = refl
+    ack false false false = h .plugged
+
+    go : (y : Bool) → Whole (cond y (withPlugged d (acknowledged d r)) d)
+    go true = record { plugged = ack (eqb (r .kind) plug) (eqb (r .kind) unplug) (eqb (r .kind) unplugAll); pins = h .pins }
+    go false = h
+
+-- ---- a request
+module _ (w s out : List ℕ) (x : Bool) (e : x ≡ (isDevice w && deviceOk (deviceOf w))) where
+  abbrev Carries : HostAnswer → List ℕ → List ℕ → Type 0
+  Carries a out′ w′ =
+      (hostReply a ≡ carriedInto (deviceOf w) s out .reply) × (out′ ≡ carriedInto (deviceOf w) s out .response)
+      × (w′ ≡ leaves (carriedInto (deviceOf w) s out .reply) (carriedInto (deviceOf w) s out .device) w)
+
+  pub carries-done : length out ≡ 10 → x ≡ true → (out′ w′ : List ℕ) → out′ ≡ carriedOut (deviceOf w) (requestOf s) .response
+      → w′ ≡ deviceWords (carriedOut (deviceOf w) (requestOf s) .device) → Carries Done out′ w′
+  unfolding carriedInto
+  carries-done l h out′ w′ p q = rw (eq-eqb (length out) 10 l, ok-device w x e h) (refl, p, q)
+
+  pub carries-27 : x ≡ false → Carries Record out w
+  unfolding carriedInto
+  carries-27 h = rw (not-device w x e h, and-off (eqb (length out) 10)) (refl, refl, refl)
+
+pub carries-length : (w s out : List ℕ) → (length out ≡ 10 → ⊥)
+    → (hostReply Record ≡ carriedInto (deviceOf w) s out .reply) × (out ≡ carriedInto (deviceOf w) s out .response)
+    × (w ≡ leaves (carriedInto (deviceOf w) s out .reply) (carriedInto (deviceOf w) s out .device) w)
+unfolding carriedInto
+carries-length w s out n = rw (ne-eqb (length out) 10 n) (refl, refl, refl)
+
+carried-fair : (d : MemoryDevice) (s out : List ℕ) → Whole d → Fair d (carriedInto d s out .reply) (carriedInto d s out .device)
+unfolding carriedInto
+carried-fair d s out h = go (eqb (length out) 10 && deviceOk d)
+  where
+    go : (y : Bool) → Fair d (cond y (carriedOut d (requestOf s)) (record { reply = plain 27; response = out; device = d }) .reply)
+        (cond y (carriedOut d (requestOf s)) (record { reply = plain 27; response = out; device = d }) .device)
+    go true = inr (refl, whole-changed d (requestOf s) (answered d (requestOf s)) h)
+    go false = inl (refl, refl)
+
+pub carried-value : (d : MemoryDevice) (w w′ s out out′ : List ℕ) (a : HostAnswer) (m : MemoryDevice) → deviceOf w ≡ d → m ≡ deviceOf w′
+    → (hostReply a ≡ carriedInto (deviceOf w) s out .reply) × (out′ ≡ carriedInto (deviceOf w) s out .response)
+    × (w′ ≡ leaves (carriedInto (deviceOf w) s out .reply) (carriedInto (deviceOf w) s out .device) w)
+    → _≡_ {A = Carried} (record { reply = hostReply a; response = out′; device = m }) (carriedInto d s out)
+carried-value d w w′ s out out′ a m e g l =
+    let o = carriedInto d s out in
+    let h : (hostReply a ≡ o .reply) × (out′ ≡ o .response) × (w′ ≡ leaves (o .reply) (o .device) w) = rw e at l in
+    parts (h .0) (h .1) (g ∙ read-back d (o .reply) (o .device) w w′ e (h .2) (carried-fair d s out (rw e at (whole-words w))))
+  where
+    parts : {r q : Reply} {b c : List ℕ} {x y : MemoryDevice} → r ≡ q → b ≡ c → x ≡ y
+        → _≡_ {A = Carried} (record { reply = r; response = b; device = x }) (record { reply = q; response = c; device = y })
+    parts p q t = λ i. record { reply = p i; response = q i; device = t i }
+
+-- ---- the configuration
+module _ (w out : List ℕ) (x : Bool) (e : x ≡ (isDevice w && deviceOk (deviceOf w))) where
+  pub configures : length out ≡ 56 → x ≡ true → (out′ : List ℕ) → out′ ≡ configurationOf (deviceAt w)
+      → (accepted ≡ configuredInto (deviceOf w) out .reply) × (out′ ≡ configuredInto (deviceOf w) out .bytes)
+  unfolding configuredInto
+  configures l h out′ p =
+      rw (eq-eqb (length out) 56 l, ok-device w x e h) (refl, p ∙ ap configurationOf (sym (device-at w (ok-length w x e h))))
+
+  pub configures-27 : x ≡ false → (plain 27 ≡ configuredInto (deviceOf w) out .reply) × (out ≡ configuredInto (deviceOf w) out .bytes)
+  unfolding configuredInto
+  configures-27 h = rw (not-device w x e h, and-off (eqb (length out) 56)) (refl, refl)
+
+pub configures-length : (w out : List ℕ) → (length out ≡ 56 → ⊥) → (plain 27 ≡ configuredInto (deviceOf w) out .reply) × (out ≡ configuredInto (deviceOf w) out .bytes)
+unfolding configuredInto
+configures-length w out n = rw (ne-eqb (length out) 56 n) (refl, refl)
+
+pub configured-value : (d : MemoryDevice) (w out out′ : List ℕ) (a : HostAnswer) → deviceOf w ≡ d
+    → (hostReply a ≡ configuredInto (deviceOf w) out .reply) × (out′ ≡ configuredInto (deviceOf w) out .bytes)
+    → _≡_ {A = Read} (record { reply = hostReply a; bytes = out′ }) (configuredInto d out)
+configured-value d w out out′ a e l =
+    let o = configuredInto d out in
+    let h : (hostReply a ≡ o .reply) × (out′ ≡ o .bytes) = rw e at l in
+    parts (h .0) (h .1)
+  where
+    parts : {r q : Reply} {b c : List ℕ} → r ≡ q → b ≡ c → _≡_ {A = Read} (record { reply = r; bytes = b }) (record { reply = q; bytes = c })
+    parts p q = λ i. record { reply = p i; bytes = q i }
+
+-- a pinned block is in the table
+pub pin-room : (pins : List ℕ) (b : ℕ) → length pins ≡ 16 → pinnedIn pins b ≡ true → b < 1024
+pin-room pins b l h = ⊎-elim (λ lt. lt) (λ ge. absurd (never (sym h ∙ past-bit pins b l ge))) (side b 1024)

@@ -1,0 +1,52 @@
+-- `memory_device::lent::carry_out` meets its contract. Assumes nothing.
+use mathlib.Core.Path.{_∙_}
+use Rattle.device_words.specs.Words.{deviceOf}
+use Rattle.device_words.proofs.DeviceWords.{ok-device}
+use Rattle.device_words.proofs.RuleLaws.{device-valid, valid-sizes}
+use Rattle.memory_device.proofs.LentLaws.{sound-length, carries-done, carries-27, carries-length}
+use borrow.Author.Needs.{needs}
+use Rattle.memory_device.proofs.lent.carry_out.Statement.{statement}
+use Rattle.memory_device.proofs.lent.carry_out.Tie as tie
+
+device-ok-requires : tie.Need-device-ok-requires
+device-ok-requires c κs = search needs
+
+respond-requires : tie.Need-respond-requires
+respond-requires c κs = let w = c .before .before .before .before .before .before .before .args .device .now in
+    (sound-length (c .before .before .before .before .before .before .before .args .device .now) _ (c .before .before .device-ok .ensures) (c .before .if2 .taken), valid-sizes (deviceOf w) (device-valid (deviceOf w) (ok-device w _ (c .before .before .device-ok .ensures) (c .before .if2 .taken))))
+
+put-response-requires : tie.Need-put-response-requires
+put-response-requires c κs = search needs
+
+same-length : tie.Need-same-length
+same-length c = search needs
+
+same-length-2 : tie.Need-same-length-2
+same-length-2 c = search needs
+
+returns : tie.Need-returns
+returns c = let a = c .before .before .before .before .before .before .before .before .before .before .before .before .before .before .args in
+    carries-done (a .device .now) (a .request) (a .response .now) _ (c .before .before .before .before .before .before .before .before .before .device-ok .ensures) (c .before .before .before .before .before .before .before .before .before .before .before .if1 .taken) (c .before .before .before .before .before .before .before .before .if2 .taken) _ _ (c .before .before .put-response .ensures ∙ c .before .before .before .before .before .before .respond .ensures .0) (c .before .before .before .before .before .before .respond .ensures .1)
+
+same-length-3 : tie.Need-same-length-3
+same-length-3 c = search needs
+
+returns-2 : tie.Need-returns-2
+returns-2 c = let a = c .before .before .before .before .before .before .args in carries-27 (a .device .now) (a .request) (a .response .now) _ (c .before .device-ok .ensures) (c .if2 .left)
+
+returns-3 : tie.Need-returns-3
+returns-3 c = let a = c .before .before .before .args in carries-length (a .device .now) (a .request) (a .response .now) (c .if1 .left)
+
+pub carry-out-spec : {M : Type 1} → statement M
+carry-out-spec =
+    tie.close
+    (tie.spec
+    device-ok-requires
+    respond-requires
+    put-response-requires
+    same-length
+    same-length-2
+    returns
+    same-length-3
+    returns-2
+    returns-3)

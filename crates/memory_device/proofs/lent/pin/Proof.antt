@@ -1,0 +1,58 @@
+-- `memory_device::lent::pin` meets its contract. Assumes nothing.
+use mathlib.Core.Bool.{true, false, not}
+use mathlib.Core.Path.{refl, sym, ap, _∙_}
+use borrow.Author.Tests.{not-true, not-false}
+use Rattle.device_words.specs.Device.{MemoryDevice, isPinned, withPins, withPin}
+use Rattle.device_words.specs.Words.{deviceAt}
+use Rattle.memory_device.specs.Host.{pinFault, pinned}
+use Rattle.memory_device.specs.declared.device.HostAnswer.the-variants.{Pin}
+use Rattle.memory_device.proofs.LentLaws.{left-27, left-fault, left-done, sound, sound-length}
+use borrow.Author.Needs.{needs}
+use Rattle.memory_device.proofs.lent.pin.Statement.{statement}
+use Rattle.memory_device.proofs.lent.pin.Tie as tie
+
+device-ok-requires : tie.Need-device-ok-requires
+device-ok-requires c κs = search needs
+
+can-pin-requires : tie.Need-can-pin-requires
+can-pin-requires c κs = (sound-length (c .before .before .before .before .before .args .device .now) _ (c .before .before .device-ok .ensures) (c .before .if1 .taken), sound (c .before .before .before .before .before .args .device .now) _ (c .before .before .device-ok .ensures) (c .before .if1 .taken))
+
+put-pin-requires : tie.Need-put-pin-requires
+put-pin-requires c κs = (sound-length (c .before .before .before .before .before .before .before .before .args .device .now) _ (c .before .before .before .before .before .device-ok .ensures) (c .before .before .before .before .if1 .taken), c .before .before .can-pin .ensures .1 (c .before .if2 .taken))
+
+same-length : tie.Need-same-length
+same-length c = search needs
+
+returns : tie.Need-returns
+unfolding pinned
+returns c = let a = c .before .before .before .before .before .before .before .before .before .before .before .args in
+    left-done (a .device .now) _ (c .before .before .before .before .before .before .before .before .device-ok .ensures) (c .before .before .before .before .before .before .before .if1 .taken) (λ (d : MemoryDevice). pinFault d (a .block)) 15 (λ (d : MemoryDevice). withPins d (withPin (d .pinned) (a .block) true)) _ (not-true (pinFault (deviceAt (a .device .now)) (a .block)) (sym (c .before .before .before .before .before .can-pin .ensures .0) ∙ c .before .before .before .before .if2 .taken)) (c .before .before .put-pin .ensures)
+
+same-length-2 : tie.Need-same-length-2
+same-length-2 c = search needs
+
+returns-2 : tie.Need-returns-2
+unfolding pinned
+returns-2 c = let a = c .before .before .before .before .before .before .before .args in
+    left-fault (a .device .now) _ (c .before .before .before .before .device-ok .ensures) (c .before .before .before .if1 .taken) (λ (d : MemoryDevice). pinFault d (a .block)) 15 (λ (d : MemoryDevice). withPins d (withPin (d .pinned) (a .block) true)) Pin refl (not-false (pinFault (deviceAt (a .device .now)) (a .block)) (sym (c .before .can-pin .ensures .0) ∙ c .if2 .left))
+
+same-length-3 : tie.Need-same-length-3
+same-length-3 c = search needs
+
+returns-3 : tie.Need-returns-3
+unfolding pinned
+returns-3 c = left-27 (c .before .before .before .before .args .device .now) _ (c .before .device-ok .ensures) _ (c .if1 .left)
+
+pub pin-spec : {M : Type 1} → statement M
+pin-spec =
+    tie.close
+    (tie.spec
+    device-ok-requires
+    can-pin-requires
+    put-pin-requires
+    same-length
+    returns
+    same-length-2
+    returns-2
+    same-length-3
+    returns-3)

@@ -1,0 +1,19 @@
+-- What a call leaves of a device's words. Assumes nothing: these are definitions.
+use mathlib.Core.Bool.{cond}
+use mathlib.Core.List.{List}
+use mathlib.Core.Path.{_≡_}
+use Prim.Native.Nat.{ℕ}
+use Rattle.region_map.specs.Reply.{Reply, passes}
+use Rattle.device_words.specs.Device.{MemoryDevice}
+use Rattle.device_words.specs.Words.{deviceWords}
+use Rattle.memory_device.specs.Record.{Outcome, hostReply}
+use Rattle.memory_device.specs.declared.device.HostAnswer.{HostAnswer}
+
+-- the words of the next state, or on a refusal those that were given
+abbrev pub leaves : Reply → MemoryDevice → List ℕ → List ℕ
+leaves reply d w = cond (passes reply) (deviceWords d) w
+
+-- a call on the words w answers a and leaves w′, as its outcome says
+pub record Left (o : Outcome) (w : List ℕ) (a : HostAnswer) (w′ : List ℕ) : Type 0 where
+  pub reply : hostReply a ≡ o .reply
+  pub words : w′ ≡ leaves (o .reply) (o .device) w

@@ -1,0 +1,144 @@
+// The host's calls on a device's words where they lie. Each judges 27 first; a refusal leaves the
+// words as they were, and a slice of another length is refused with 27.
+ghost use mathlib.Core.Path.{_≡_};
+ghost use lib.ListN.{length};
+ghost use Rattle.device_words.specs.Words.{deviceOf};
+ghost use Rattle.memory_device.specs.Record.{hostReply};
+ghost use Rattle.memory_device.specs.Host.{resized, pinned, unpinned, wasReset, configuredInto, byteBlock, byteOf};
+ghost use Rattle.memory_device.specs.Request.{carriedInto};
+ghost use Rattle.memory_device.specs.Lent.{Left, leaves};
+use crate::device::HostAnswer;
+use crate::state::can_pin;
+use crate::state::can_unpin;
+use crate::state::clear_tables;
+use crate::state::put_pin;
+use crate::state::put_values;
+use crate::state::set_requested;
+use crate::state::size_fault;
+use device_words::answer::respond;
+use device_words::device::BlockNumber;
+use device_words::device::block_of;
+use device_words::rules::device_ok;
+use device_words::words::block_size;
+use device_words::words::region_size;
+use map_records::map::RegionOffset;
+
+// The block of a byte, or that the byte lies outside the region, or 27.
+pub enum ByteBlock {
+    At(BlockNumber),
+    Outside,
+    Record,
+}
+
+// The requested size is set, and raises the usable size to it if that is lower.
+pub fn set_requested_size(device: &mut [u64], size: u64) -> HostAnswer
+    ensures { λ r. ⌜ Left (resized (deviceOf (now (device .entry))) size) (now (device .entry)) r (now (device .exit)) ⌝ }
+{
+    if device_ok(device) {
+        if size_fault(device, size) {
+            return HostAnswer::Size;
+        }
+        set_requested(device, size);
+        return HostAnswer::Done;
+    }
+    HostAnswer::Record
+}
+
+// A system reset: the fresh state, with the sizes and addr as they are.
+pub fn system_reset(device: &mut [u64]) -> HostAnswer
+    ensures { λ r. ⌜ Left (wasReset (deviceOf (now (device .entry)))) (now (device .entry)) r (now (device .exit)) ⌝ }
+{
+    if device_ok(device) {
+        clear_tables(device);
+        return HostAnswer::Done;
+    }
+    HostAnswer::Record
+}
+
+// A block that the host holds, so that it is not unplugged. A number past every block is refused like
+// any other outside the region.
+pub fn pin(device: &mut [u64], block: u64) -> HostAnswer
+    ensures { λ r. ⌜ Left (pinned (deviceOf (now (device .entry))) block) (now (device .entry)) r (now (device .exit)) ⌝ }
+{
+    let b = block as usize;
+    if device_ok(device) {
+        if can_pin(device, b) {
+            put_pin(device, b, true);
+            return HostAnswer::Done;
+        }
+        return HostAnswer::Pin;
+    }
+    HostAnswer::Record
+}
+
+// A block that the host holds no longer.
+pub fn unpin(device: &mut [u64], block: u64) -> HostAnswer
+    ensures { λ r. ⌜ Left (unpinned (deviceOf (now (device .entry))) block) (now (device .entry)) r (now (device .exit)) ⌝ }
+{
+    let b = block as usize;
+    if device_ok(device) {
+        if can_unpin(device, b) {
+            put_pin(device, b, false);
+            return HostAnswer::Done;
+        }
+        return HostAnswer::Pin;
+    }
+    HostAnswer::Record
+}
+
+// The configuration that the guest reads, into 56 bytes.
+pub fn configuration(device: &[u64], bytes: &mut [u8]) -> HostAnswer
+    ensures { λ r. ⌜ (hostReply r ≡ configuredInto (deviceOf (now (device .entry))) (now (bytes .entry)) .reply)
+        × (now (bytes .exit) ≡ configuredInto (deviceOf (now (device .entry))) (now (bytes .entry)) .bytes) ⌝ }
+{
+    if bytes.len() == 56 {
+        if device_ok(device) {
+            put_values(device, bytes);
+            return HostAnswer::Done;
+        }
+    }
+    HostAnswer::Record
+}
+
+fn put_response(out: &mut [u8], response: [u8; 10])
+    requires { ⌜ length (now out) ≡ 10 ⌝ }
+    ensures { λ _. ⌜ now (out .exit) ≡ response ⌝ }
+{
+    let mut i: usize = 0;
+    while i < 10 {
+        out[i] = response[i];
+        i += 1;
+    }
+}
+
+// A request carried out; its response goes into 10 bytes.
+pub fn carry_out(device: &mut [u64], request: [u8; 24], response: &mut [u8]) -> HostAnswer
+    ensures { λ r. ⌜ (hostReply r ≡ carriedInto (deviceOf (now (device .entry))) request (now (response .entry)) .reply)
+        × (now (response .exit) ≡ carriedInto (deviceOf (now (device .entry))) request (now (response .entry)) .response)
+        × (now (device .exit) ≡ leaves (carriedInto (deviceOf (now (device .entry))) request (now (response .entry)) .reply)
+        (carriedInto (deviceOf (now (device .entry))) request (now (response .entry)) .device) (now (device .entry))) ⌝ }
+{
+    if response.len() == 10 {
+        if device_ok(device) {
+            let bytes = respond(device, request);
+            put_response(response, bytes);
+            return HostAnswer::Done;
+        }
+    }
+    HostAnswer::Record
+}
+
+// Document 01's block of a byte: by the offset in the managed region.
+pub fn block_of_byte(device: &[u64], offset: RegionOffset) -> ByteBlock
+    ensures { λ r. ⌜ byteOf r ≡ byteBlock (deviceOf (now (device .entry))) (offset .0) ⌝ }
+{
+    if device_ok(device) {
+        let block = block_size(device);
+        let region = region_size(device);
+        if offset.0 < region {
+            return ByteBlock::At(block_of(block, offset));
+        }
+        return ByteBlock::Outside;
+    }
+    ByteBlock::Record
+}

@@ -1,0 +1,155 @@
+-- What the calls over queues say, from what the calls inside them give. Assumes nothing.
+use mathlib.Core.Path.{_≡_, refl, sym, ap, _∙_}
+use mathlib.Core.Bool.{Bool, true, false, _&&_}
+use mathlib.Core.List.{List}
+use Prim.Native.Nat.{ℕ, _<_}
+use native.Mathlib.Omega.{arith}
+use lib.Dec.{eqb, leb}
+use lib.ListN.{length, getD}
+use borrow.Author.Tests.{eqb-true, leb-true, eq-eqb, ne-eqb}
+use Rattle.map_records.specs.Words.{viewOf}
+use Rattle.region_map.specs.Reply.{numberOf, passes}
+use Rattle.region_map.specs.Flatten.{isView}
+use Rattle.region_map.proofs.Bools.{and-fst, and-snd}
+use Rattle.device_words.specs.Device.{MemoryDevice}
+use Rattle.device_words.specs.Words.{isDevice, deviceOf, deviceWords}
+use Rattle.virtqueue.specs.Queue.{sizeOk, areasOk, made, queueReply}
+use Rattle.virtqueue.specs.Step.{stepped}
+use Rattle.virtqueue.specs.Moved.{moved, laid}
+use Rattle.virtqueue.specs.Run.{ran}
+use Rattle.virtqueue.specs.declared.queue.SplitQueue.{SplitQueue}
+use Rattle.virtqueue.specs.declared.queue.QueueAnswer.{QueueAnswer}
+use Rattle.virtqueue.specs.declared.queue.QueueAnswer.the-variants as answer
+use Rattle.virtqueue.specs.declared.queue.QueueGiven.{QueueGiven}
+use Rattle.virtqueue.specs.declared.step.Moved.{Moved}
+use Rattle.virtqueue.specs.declared.run.Ran.{Ran}
+use Rattle.virtqueue.proofs.QueueLaws.{size-bounds}
+use Rattle.wicktumble.specs.Result.{Told, Tells, isResult}
+use Rattle.wicktumble.specs.Devices.{Changed, Changes}
+use Rattle.wicktumble.specs.Queues.{queueFits, QueueWidths, queueOf, queueWords, gives, Left, Leaves, recordsFit}
+use Rattle.wicktumble.specs.Queues.{outcomeTold, steps, stepCall, endTold, runs, runCall}
+use Rattle.wicktumble.proofs.CallLaws.{taken, refused, result-fits, told-as}
+
+-- ---- the test of the lengths and widths
+pub queue-widths : (w : List ℕ) {b : Bool} → b ≡ queueFits w → b ≡ true → QueueWidths w
+unfolding queueFits
+queue-widths w q t =
+    let n = eqb (length w) 7 in
+    let a = leb (getD w 0 0) 65535 in
+    let b = leb (getD w 4 0) 65535 in
+    let c = leb (getD w 5 0) 65535 in
+    let d = leb (getD w 6 0) 255 in
+    let h : (n && (a && (b && (c && d)))) ≡ true = sym q ∙ t in
+    let abcd = and-snd n (a && (b && (c && d))) h in
+    let bcd = and-snd a (b && (c && d)) abcd in
+    let cd = and-snd b (c && d) bcd in
+    record {
+      seven = eqb-true (length w) 7 (and-fst n (a && (b && (c && d))) h);
+      size = leb-true (getD w 0 0) 65535 (and-fst a (b && (c && d)) abcd);
+      available = leb-true (getD w 4 0) 65535 (and-fst b (c && d) bcd);
+      used = leb-true (getD w 5 0) 65535 (and-fst c d cd);
+      stop = leb-true (getD w 6 0) 255 (and-snd c d cd);
+    }
+
+pub record Fits (d q x : List ℕ) : Type 0 where
+  pub device : isDevice d ≡ true
+  pub queue : QueueWidths q
+  pub result : length x ≡ 3
+
+pub fits : (v d q x : List ℕ) {b : Bool} → b ≡ recordsFit v d q x → b ≡ true → Fits d q x
+fits v d q x e t =
+    let f = and-snd (isView v) (isDevice d && (queueFits q && isResult x)) (sym e ∙ t) in
+    let g = and-snd (isDevice d) (queueFits q && isResult x) f in
+    record {
+      device = and-fst (isDevice d) (queueFits q && isResult x) f;
+      queue = queue-widths q refl (and-fst (queueFits q) (isResult x) g);
+      result = result-fits (queueFits q) x g;
+    }
+
+-- ---- making and reset
+pub changed-as : {c c' : Changed} {n : ℕ} {w : List ℕ} → Changes c n w → c ≡ c' → Changes c' n w
+changed-as (n, w) e = (n ∙ ap (λ (y : Changed). y .number) e, w ∙ ap (λ (y : Changed). y .words) e)
+
+-- a number is 0 where nothing is refused, and only there
+queue-zero : (a : QueueAnswer) → eqb (numberOf (queueReply a)) 0 ≡ passes (queueReply a)
+queue-zero answer.Done = refl
+queue-zero answer.Queue = refl
+queue-zero answer.Record = refl
+
+module _ (g : QueueGiven) (w : List ℕ) {n : ℕ} (e : n ≡ numberOf (queueReply (g .answer))) where
+  pub given-put : {w' : List ℕ} → n ≡ 0 → w' ≡ queueWords (g .queue) → Changes (gives g w) n w'
+  given-put z q =
+      let p : passes (queueReply (g .answer)) ≡ true = sym (queue-zero (g .answer)) ∙ eq-eqb _ 0 (sym e ∙ z) in
+      (e, rw p q)
+
+  pub given-kept : (n ≡ 0 → ⊥) → Changes (gives g w) n w
+  given-kept z =
+      let p : passes (queueReply (g .answer)) ≡ false = sym (queue-zero (g .answer)) ∙ ne-eqb _ 0 (λ h. z (e ∙ h)) in
+      (e, rw p)
+
+-- a size past 16 bits is no power of two from 1 to 256
+module _ (size a b u : ℕ) (l : 65535 < size) where
+  size-large : sizeOk size ≡ false
+  size-large = go (sizeOk size) refl
+    where
+      go : (t : Bool) → sizeOk size ≡ t → t ≡ false
+      go true e = absurd (omega (arith, l, size-bounds size e .1))
+      go false e = refl
+
+  areas-large : areasOk size a b u ≡ false
+  unfolding areasOk
+  areas-large = rw size-large
+
+  pub made-large : (w : List ℕ) → Changes (gives (made size a b u) w) 16 w
+  unfolding made
+  made-large w = (rw areas-large, rw areas-large)
+
+-- ---- a step or a run: the device's words lie as it left them, the queue's are put
+left-as : {c c' : Left} {n : ℕ} {d q m x : List ℕ} → Leaves c n d q m x → c ≡ c' → Leaves c' n d q m x
+left-as (d, q, m, t) e = (
+  d ∙ ap (λ (y : Left). y .device) e,
+  q ∙ ap (λ (y : Left). y .queue) e,
+  m ∙ ap (λ (y : Left). y .memory) e,
+  told-as t (ap (λ (y : Left). y .told) e),
+)
+
+laid-in : (d : List ℕ) (y : MemoryDevice) → isDevice d ≡ true → laid d y ≡ deviceWords y
+laid-in d y f = rw f
+
+module _ (v d q m x : List ℕ) {b : Bool} (e : b ≡ recordsFit v d q x) where
+  pub step-left : {y : SplitQueue} {r : Moved} {c : Told} {n : ℕ} {d' q' m' x' : List ℕ} → b ≡ true → y ≡ queueOf q
+      → (r ≡ moved (stepped (viewOf v) (deviceOf d) y m .result))
+      × (d' ≡ laid d (stepped (viewOf v) (deviceOf d) y m .result .device)) × (m' ≡ stepped (viewOf v) (deviceOf d) y m .memory)
+      → q' ≡ queueWords (r .queue) → c ≡ outcomeTold (r .outcome) → Tells c n x' → Leaves (stepCall v d q m x) n d' q' m' x'
+  unfolding stepCall
+  step-left {y = y} t ey (er, ed, em) eq ec told =
+      left-as {c = steps (stepped (viewOf v) (deviceOf d) y m)} (
+        ed ∙ laid-in d _ (fits v d q x e t .device),
+        eq ∙ ap (λ (z : Moved). queueWords (z .queue)) er,
+        em,
+        told-as told (ec ∙ ap (λ (z : Moved). outcomeTold (z .outcome)) er),
+      )
+      (ap (λ (z : SplitQueue). steps (stepped (viewOf v) (deviceOf d) z m)) ey ∙ taken _ _ (sym e ∙ t))
+
+  pub step-refused : b ≡ false → Leaves (stepCall v d q m x) 27 d q m x
+  unfolding stepCall
+  step-refused t = left-as (refl, refl, refl, (refl, refl)) (refused _ _ (sym e ∙ t))
+
+  pub run-left : (k : ℕ) {y : SplitQueue} {r : Ran} {c : Told} {n : ℕ} {d' q' m' x' : List ℕ} → b ≡ true → y ≡ queueOf q
+      → (r ≡ ran (viewOf v) (deviceOf d) y m k .result)
+      × (d' ≡ laid d (ran (viewOf v) (deviceOf d) y m k .device)) × (m' ≡ ran (viewOf v) (deviceOf d) y m k .memory)
+      → q' ≡ queueWords (r .queue) → c ≡ endTold (r .served) (r .notified) (r .end) → Tells c n x'
+      → Leaves (runCall v d q m k x) n d' q' m' x'
+  unfolding runCall
+  run-left k {y = y} t ey (er, ed, em) eq ec told =
+      left-as {c = runs (ran (viewOf v) (deviceOf d) y m k)} (
+        ed ∙ laid-in d _ (fits v d q x e t .device),
+        eq ∙ ap (λ (z : Ran). queueWords (z .queue)) er,
+        em,
+        told-as told (ec ∙ ap (λ (z : Ran). endTold (z .served) (z .notified) (z .end)) er),
+      )
+      (ap (λ (z : SplitQueue). runs (ran (viewOf v) (deviceOf d) z m k)) ey ∙ taken _ _ (sym e ∙ t))
+
+  pub run-refused : (k : ℕ) → b ≡ false → Leaves (runCall v d q m k x) 27 d q m x
+  unfolding runCall
+  run-refused k t = left-as (refl, refl, refl, (refl, refl)) (refused _ _ (sym e ∙ t))

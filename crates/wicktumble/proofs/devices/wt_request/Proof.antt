@@ -1,0 +1,43 @@
+-- `wicktumble::devices::wt_request` meets its contract. Assumes nothing.
+use borrow.Author.Needs.{needs}
+use Rattle.wicktumble.proofs.DeviceCalls.{request-done, request-refused}
+use Rattle.wicktumble.proofs.devices.wt_request.Statement.{statement}
+use Rattle.wicktumble.proofs.devices.wt_request.Tie as tie
+
+request-of-requires : tie.Need-request-of-requires
+request-of-requires c κs = c .if1 .taken
+
+carry-out-requires : tie.Need-carry-out-requires
+carry-out-requires c κs = search needs
+
+number-of-requires : tie.Need-number-of-requires
+number-of-requires c κs = search needs
+
+same-length : tie.Need-same-length
+same-length c = search needs
+
+same-length-2 : tie.Need-same-length-2
+same-length-2 c = search needs
+
+returns : tie.Need-returns
+returns c =
+    let s = c .before .before .before .before .before in
+    let a = s .before .before .before .before .before .before .before .before .args in
+    request-done (a .device .now) (a .request .now) (a .response .now) (s .carry-out .result) (s .before .before .before .before .if1 .taken) (s .before .before .before .request-of .ensures) (s .carry-out .ensures) (c .number-of .ensures)
+
+returns-2 : tie.Need-returns-2
+returns-2 c =
+    let a = c .before .before .before .before .args in
+    request-refused (a .device .now) (a .request .now) (a .response .now) (c .if1 .left)
+
+pub wt-request-spec : {M : Type 1} → statement M
+wt-request-spec =
+    tie.close
+    (tie.spec
+    request-of-requires
+    carry-out-requires
+    number-of-requires
+    same-length
+    same-length-2
+    returns
+    returns-2)

@@ -1,0 +1,38 @@
+-- `wicktumble::routes::wt_look_up` meets its contract. Assumes nothing.
+use borrow.Author.Needs.{needs}
+use mathlib.Core.Path.{ap, _∙_}
+use Rattle.region_map.specs.Flatten.{isView}
+use Rattle.wicktumble.specs.Routes.{lookUpTold, lookUpCall}
+use Rattle.wicktumble.proofs.CallLaws.{taken, refused, result-fits, untold-as, told-as}
+use Rattle.wicktumble.proofs.routes.wt_look_up.Statement.{statement}
+use Rattle.wicktumble.proofs.routes.wt_look_up.Tie as tie
+
+look-up-requires : tie.Need-look-up-requires
+look-up-requires c κs = search needs
+
+say-look-up-requires : tie.Need-say-look-up-requires
+say-look-up-requires c κs = search needs
+
+tell-requires : tie.Need-tell-requires
+tell-requires c κs =
+    let s = c .before .before .before in
+    let a = s .before .before .before .args in
+    result-fits (isView (a .view .now)) (a .result .now) (s .if1 .taken)
+
+same-length : tie.Need-same-length
+same-length c = search needs
+
+returns : tie.Need-returns
+unfolding lookUpCall
+returns c =
+    let s = c .before .before in
+    told-as (s .tell .ensures) (s .before .say-look-up .ensures ∙ ap lookUpTold (s .before .before .before .look-up .ensures) ∙ taken _ _ (s .before .before .before .before .if1 .taken))
+
+returns-2 : tie.Need-returns-2
+unfolding lookUpCall
+returns-2 c = untold-as (refused _ _ (c .if1 .left))
+
+pub wt-look-up-spec : {M : Type 1} → statement M
+wt-look-up-spec =
+    tie.close
+    (tie.spec look-up-requires say-look-up-requires tell-requires same-length returns returns-2)
