@@ -1,3 +1,4 @@
+pub mod NumberLaws
 pub mod Order
 pub mod StoreLaws
 pub mod GroupLaws

@@ -1,0 +1,21 @@
+// Small questions about numbers that several crates ask.
+ghost use mathlib.Core.Path.{_≡_};
+ghost use Prim.Native.Nat.{_+_, min};
+ghost use lib.Dec.{leb};
+
+// The smaller of two.
+pub fn least(a: u64, b: u64) -> u64
+    ensures { λ r. ⌜ r ≡ min a b ⌝ }
+{
+    if b < a { b } else { a }
+}
+
+// Is the sum at most the limit? It never wraps.
+pub fn sum_within(a: u64, b: u64, limit: u64) -> bool
+    ensures { λ r. ⌜ r ≡ leb (a + b) limit ⌝ }
+{
+    if limit < b {
+        return false;
+    }
+    a <= limit - b
+}
