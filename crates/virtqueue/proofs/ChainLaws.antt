@@ -9,12 +9,10 @@ use lib.ListN.{length, take, drop, getD, length-append, length-map, length-take,
 use lib.Seq.{sets, sets-eq, length-sets, take-at, length-take-le, drop-drop}
 use borrow.Author.Tests.{lt-ltb, le-ltb}
 use Rattle.guest_view.specs.Guest.{byteAt, addresses, numberAt}
-use Rattle.virtqueue.specs.Chain.{Chain, whole, ended, element, Following, onward, astray, nextBelow, goOn, hasNext, isWritable, misplaced, visit, follow, endOf, readable, writable, total, firstBytes, descriptorAt}
+use Rattle.virtqueue.specs.Chain.{Chain, Entry, out, here, whole, ended, element, Following, onward, astray, nextBelow, goOn, hasNext, isWritable, misplaced, visit, follow, endOf, readable, writable, total, firstBytes, descriptorAt}
 use Rattle.virtqueue.specs.Step.{requestBytes, responsePlaces}
 use Rattle.virtqueue.specs.Contracts.{Got, added, stopAt, Visits, Gathers}
 use Rattle.virtqueue.specs.declared.chain.Descriptor.{Descriptor}
-use Rattle.virtqueue.specs.declared.chain.Fetched.{Fetched}
-use Rattle.virtqueue.specs.declared.chain.Fetched.the-variants.{Out, Here}
 
 -- stretches of addresses
 pub length-addresses : (a n : ℕ) → length (addresses a n) ≡ n
@@ -186,17 +184,17 @@ next-below size i d h = rw (lt-ltb (d .next) size h)
 pub next-astray : (size i : ℕ) (d : Descriptor) → size ≤ d .next → nextBelow size d i ≡ astray
 next-astray size i d h = rw (le-ltb (d .next) size h)
 
-module _ (F : ℕ → Fetched) (R : Descriptor → Bool) (N : Descriptor → ℕ → Following) (i : ℕ) (late : Bool) where
+module _ (F : ℕ → Entry) (R : Descriptor → Bool) (N : Descriptor → ℕ → Following) (i : ℕ) (late : Bool) where
   pub follow-none : (left : ℕ) → left ≡ 0 → endOf (follow F R N left i late) ≡ 20
   unfolding follow endOf
   follow-none left e = rw e
 
-  pub follow-out : (left : ℕ) → 0 < left → F i ≡ Out → endOf (follow F R N left i late) ≡ 17
+  pub follow-out : (left : ℕ) → 0 < left → F i ≡ out → endOf (follow F R N left i late) ≡ 17
   unfolding follow endOf visit
   follow-out zero p e = absurd (omega arith)
   follow-out (suc left) p e = rw e
 
-  module _ (d : Descriptor) (e : F i ≡ Here d) where
+  module _ (d : Descriptor) (e : F i ≡ here d) where
     pub follow-stopped : (left k : ℕ) → 0 < left → k ≡ stopAt R late d → (k ≡ 0 → ⊥) → endOf (follow F R N left i late) ≡ k
     unfolding follow endOf visit
     follow-stopped zero k p s n = absurd (omega arith)

@@ -1,361 +1,365 @@
--- Demand 2 for 16 to 22 and 27: each number exactly at its cause, found by number. Assumes nothing.
-use mathlib.Core.Logic.{_⊎_, inl, inr, ⊎-elim}
-use mathlib.Core.Path.{_≡_, refl, sym, ap, _∙_}
+-- Demand 2 for 16 to 22 and 27: each answer of a step exactly at its cause. Assumes nothing.
+use mathlib.Core.Logic.{_⊎_, inl, inr}
+use mathlib.Core.Path.{_≡_, refl, sym, ap, _∙_, subst}
 use mathlib.Core.Bool.{Bool, true, false, cond, _&&_, _||_, not}
 use mathlib.Core.List.{List}
-use Prim.Native.Nat.{ℕ, zero, suc, _+_, _≤_, _<_}
+use Prim.Native.Nat.{ℕ, zero, suc, _+_, _-_, _≤_, _<_}
+use native.Mathlib.Decide.{decLt}
 use native.Mathlib.Omega.{arith}
-use lib.Dec.{eqb, leb, ltb}
+use lib.Dec.{eqb, ltb}
 use lib.ListN.{length}
-use borrow.Author.Tests.{eqb-true, eqb-false, ne-eqb, leb-true}
+use borrow.Author.Tests.{eqb-true, eqb-false, eq-eqb, ne-eqb, lt-ltb, le-ltb}
 use Rattle.map_records.specs.declared.view.FlatView.{FlatView}
-use Rattle.region_map.proofs.Bools.{never, and-fst, and-snd}
-use Rattle.device_words.specs.Device.{deviceOk}
-use Rattle.guest_view.specs.View.{viewOk}
+use Rattle.region_map.specs.Reply.{Reply, accepted, plain}
+use Rattle.region_map.proofs.Bools.{never, or-left, or-right}
 use Rattle.device_words.specs.Device.{MemoryDevice}
-use Rattle.guest_view.specs.Guest.{Guest, allReach, numberAt, byView}
-use Rattle.virtqueue.specs.Queue.{areasOk, stopOk, queueOk, made, ringEntry, distance}
-use Rattle.virtqueue.specs.Chain.{Chain, whole, ended, refused, element, Following, onward, astray, nextBelow, goOn, misplaced, hasNext, isWritable, visit, follow, endOf, readable, writable, total, shapeOf, chainAt, fetched, reached}
-use Rattle.virtqueue.specs.Step.{Offer, stop, idle, ready, noticesOf, headOf, chainOf, usedReached, offerChain, offerHead, offerNotices, offered, finished, notifies, headChain, noticesChain, comesTo, steppedBy, recordsOk, stepped}
-use Rattle.virtqueue.specs.Causes.{refusedBy, is16, idx, entry, chain, noticed, pending, ahead, offers, entered, headed, chained, short, shaped, cause17, cause18, cause19, cause20, cause21, cause22}
+use Rattle.guest_view.specs.Guest.{Guest, allReach, byView}
+use Rattle.virtqueue.specs.Queue.{areasOk, made, ringEntry}
+use Rattle.virtqueue.specs.Chain.{Chain, Entry, out, here, ended, element, Following, nextBelow, misplaced, hasNext, isWritable, isIndirect, follow, endOf, readable, writable, total, shapeOf, chainAt, fetched, reached}
+use Rattle.virtqueue.specs.Step.{Answer, refused, served, Way, along, flags, idx, entry, offers, notifies, wayOf, chainOf, chainIn, comesTo, usedReached, Offer, offerOf, offered, Effect, unmoved, finished, steppedBy, recordsOk, stepped}
+use Rattle.virtqueue.specs.Causes as causes
+use Rattle.virtqueue.specs.Causes.{Begun, Noticed, Pending, Offered, Entered, Headed, On, Meets, Accepts, Whole, Shaped, Cause, Exact}
+use Rattle.virtqueue.specs.Contracts.{stopAt}
 use Rattle.virtqueue.specs.declared.chain.Descriptor.{Descriptor}
-use Rattle.virtqueue.specs.declared.chain.Fetched.{Fetched}
-use Rattle.virtqueue.specs.declared.chain.Fetched.the-variants.{Out, Here}
 use Rattle.virtqueue.specs.declared.queue.SplitQueue.{SplitQueue}
-use Rattle.virtqueue.specs.declared.queue.QueueGiven.{QueueGiven}
-use Rattle.virtqueue.specs.declared.take.AvailableNotices.the-variants as notices
-use Rattle.virtqueue.specs.declared.take.HeadEntry.the-variants as head
-use Rattle.virtqueue.specs.declared.step.StepOutcome.{StepOutcome}
-use Rattle.virtqueue.specs.declared.step.StepOutcome.the-variants.{Refused, Idle, Served}
+use Rattle.virtqueue.proofs.ChainLaws.{next-below, next-astray, follow-out, follow-stopped, follow-last, follow-astray, follow-next, follow-none}
+use Rattle.virtqueue.proofs.TakeLaws.{chain-ended, chain-unused, chain-ready}
+use Rattle.virtqueue.proofs.WayLaws.{way-stopped, way-unnoticed, way-quiet, way-ahead, way-ring, way-head, way-on}
 
--- 16
-pub refused-16 : (size descriptors available used : ℕ) → is16 (made size descriptors available used .answer) ≡ not (areasOk size descriptors available used)
+-- 16: 'queue size not a power of two ..', exactly where the areas break their rules
+pub refused-16 : (size descriptors available used : ℕ) → made size descriptors available used .reply ≡ cond (areasOk size descriptors available used) accepted (plain 16)
 unfolding made
-refused-16 size descriptors available used = go (areasOk size descriptors available used) _ _ refl refl
+refused-16 size descriptors available used = go (areasOk size descriptors available used) refl
   where
-    go : (x : Bool) (y z : QueueGiven) → is16 (y .answer) ≡ false → is16 (z .answer) ≡ true → is16 (cond x y z .answer) ≡ not x
-    go true y z p r = p
-    go false y z p r = r
-
--- Where a chain ends: one descriptor, of which `left` more may follow.
-module _ (fetch : ℕ → Fetched) (test : Descriptor → Bool) (next : Descriptor → ℕ → Following) (left i : ℕ) (late : Bool) where
-  abbrev on : ℕ
-  on = endOf (follow fetch test next (suc left) i late)
-
-  -- 17: the descriptor's bytes
-  pub chain-17 : fetch i ≡ Out → on ≡ 17
-  unfolding follow visit endOf
-  chain-17 e = rw e
-
-  module _ (d : Descriptor) (e : fetch i ≡ Here d) where
-    -- 20: 'INDIRECT set; a readable element after a writable one'
-    pub chain-20-misplaced : misplaced late d ≡ true → on ≡ 20
-    unfolding follow visit endOf
-    chain-20-misplaced p = rw (e, p)
-
-    module _ (p : misplaced late d ≡ false) where
-      -- 21: 'a byte of an element is not reachable'
-      pub chain-21 : test d ≡ false → on ≡ 21
-      unfolding follow visit endOf
-      chain-21 r = rw (e, p, r)
-
-      module _ (r : test d ≡ true) where
-        -- 20: the next entry is none of the table
-        pub chain-20-next : hasNext d ≡ true → next d i ≡ astray → on ≡ 20
-        unfolding follow visit endOf
-        chain-20-next n l = rw (e, p, r, n, l)
-
-        -- 20: 'NEXT set in the descriptor that is the queue-size-th of the chain'
-        pub chain-20-length : (j : ℕ) → hasNext d ≡ true → next d i ≡ onward j → left ≡ 0 → on ≡ 20
-        unfolding follow visit endOf
-        chain-20-length j n l z = rw (e, p, r, n, l, z)
-
-        -- else the chain goes on, or is whole
-        pub chain-on : (j : ℕ) → hasNext d ≡ true → next d i ≡ onward j → on ≡ endOf (follow fetch test next left j (isWritable d))
-        unfolding follow visit endOf
-        chain-on j n l = rw (e, p, r, n, l)
-
-        pub chain-whole : hasNext d ≡ false → on ≡ 0
-        unfolding follow visit endOf
-        chain-whole n = rw (e, p, r, n)
-
--- in the queue's table 20 is 'next not below the queue size'
-pub next-20 : (size i : ℕ) (d : Descriptor) → ltb (d .next) size ≡ false → nextBelow size d i ≡ astray
-next-20 size i d l = rw l
-
-pub next-on : (size i : ℕ) (d : Descriptor) → ltb (d .next) size ≡ true → nextBelow size d i ≡ onward (d .next)
-next-on size i d l = rw l
-
--- a chain ends with no other number
-pub data Ends : ℕ → Type 0 where
-  at0 : Ends 0
-  at17 : Ends 17
-  at20 : Ends 20
-  at21 : Ends 21
-
-module _ (test : Descriptor → Bool) (next : Descriptor → ℕ → Following) where
-  visit-ends : (i : ℕ) (late : Bool) (rest : ℕ → Bool → Chain) → ((j : ℕ) (w : Bool) → Ends (endOf (rest j w))) → (x : Fetched) → Ends (endOf (visit test next i late rest x))
-  unfolding visit endOf
-  visit-ends i late rest f Out = at17
-  visit-ends i late rest f (Here d) = go (misplaced late d) (test d) (hasNext d) (next d i)
-    where
-      go : (x y n : Bool) (l : Following) → Ends (endOf (cond x (ended 20) (cond y (element d (cond n (goOn (λ j. rest j (isWritable d)) l) whole)) (refused d))))
-      go true y n l = at20
-      go false false n l = at21
-      go false true true (onward j) = f j (isWritable d)
-      go false true true astray = at20
-      go false true false l = at0
-
-  follow-ends : (fetch : ℕ → Fetched) (left i : ℕ) (late : Bool) → Ends (endOf (follow fetch test next left i late))
-  unfolding follow endOf
-  follow-ends fetch zero i late = at20
-  follow-ends fetch (suc left) i late = visit-ends i late (follow fetch test next left) (λ j w. follow-ends fetch left j w) (fetch i)
-
-pub chain-ends : (g : Guest) (memory : List ℕ) (table size h : ℕ) → Ends (endOf (chainAt g memory table size h))
-unfolding chainAt
-chain-ends g memory table size h = follow-ends (reached g) (nextBelow size) (fetched g memory table) size h false
-
--- Does a step that is not stopped end with number k? By what it meets on its way: available flags and idx reachable, something pending, too far ahead, the entry reachable, the head in the table, too short, the used ring reachable, the chain's end.
-abbrev told : ℕ → Bool → Bool → Bool → Bool → Bool → Bool → Bool → ℕ → Bool
-told k noticed pending ahead ring inside short used e =
-    cond noticed
-    (cond pending
-    (cond ahead (eqb 18 k)
-    (cond ring (cond inside (cond (eqb e 0) (cond short (eqb 22 k) (cond used false (eqb 17 k))) (eqb e k)) (eqb 19 k)) (eqb 17 k)))
-    false)
-    (eqb 17 k)
-
-module _ (g : Guest) (d : MemoryDevice) (memory : List ℕ) (q : SplitQueue) where
-  abbrev result : StepOutcome
-  result = steppedBy g d q memory .result .outcome
-
-  abbrev by : ℕ → Offer → Bool
-  by k o = refusedBy k (finished g d q memory o .result .outcome)
-
-  by-chain : (k h : ℕ) (n : Bool) (c : Chain) (e : ℕ) → Ends e → endOf c ≡ e → (s u : Bool)
-      → (ltb (total (readable c)) 24 || ltb (total (writable c)) 10) ≡ s → usedReached g q ≡ u
-      → by k (offerChain g q h n c) ≡ cond (eqb e 0) (cond s (eqb 22 k) (cond u false (eqb 17 k))) (eqb e k)
-  unfolding offerChain shapeOf
-  by-chain k h n c e at0 p true u t v = rw (p, t)
-  by-chain k h n c e at0 p false true t v = rw (p, t, v)
-  by-chain k h n c e at0 p false false t v = rw (p, t, v)
-  by-chain k h n c e at17 p s u t v = rw p
-  by-chain k h n c e at20 p s u t v = rw p
-  by-chain k h n c e at21 p s u t v = rw p
-
-  step-told : (k : ℕ) → q .stop ≡ 0
-      → refusedBy k result
-      ≡ told k (noticed g memory q) (pending g memory q) (ahead g memory q) (allReach (g .reach) (ringEntry q) 2) (ltb (entry g memory q) (q .size)) (short g memory q) (usedReached g q) (endOf (chain g memory q))
-  unfolding steppedBy offered noticesOf headOf
-  step-told k z =
-      let z₂ : eqb (q .stop) 0 ≡ true = rw z in
-      ap (λ (x : Bool). by k (cond x (offerNotices g memory q (noticesOf g memory q)) (stop (q .stop)))) z₂
-      ∙ (go (noticed g memory q) (eqb (idx g memory q) (q .«next_available»)) (ahead g memory q) (allReach (g .reach) (ringEntry q) 2) (ltb (entry g memory q) (q .size)))
-    where
-      go : (n i a r h : Bool)
-          → by k (offerNotices g memory q (cond n (cond i notices.Idle (cond a (notices.Stop 18) (notices.Offered (notifies (numberAt (g .place) memory (q .available .0) 2))))) (notices.Stop 17)))
-          ≡ told k n (not i) a (allReach (g .reach) (ringEntry q) 2) (ltb (entry g memory q) (q .size)) (short g memory q) (usedReached g q) (endOf (chain g memory q))
-      go true true a r h = refl
-      go true false true r h = refl
-      go true false false r h = head-told (allReach (g .reach) (ringEntry q) 2) (ltb (entry g memory q) (q .size))
-        where
-          head-told : (r h : Bool)
-              → by k (offerHead g memory q (notifies (numberAt (g .place) memory (q .available .0) 2)) (cond r (cond h (head.At (entry g memory q)) (head.Stop 19)) (head.Stop 17)))
-              ≡ cond r (cond h (cond (eqb (endOf (chain g memory q)) 0) (cond (short g memory q) (eqb 22 k) (cond (usedReached g q) false (eqb 17 k))) (eqb (endOf (chain g memory q)) k)) (eqb 19 k)) (eqb 17 k)
-          head-told true true =
-              by-chain k (entry g memory q) (notifies (numberAt (g .place) memory (q .available .0) 2)) (chain g memory q) (endOf (chain g memory q))
-              (chain-ends g memory (q .descriptors .0) (q .size) (entry g memory q)) refl (short g memory q) (usedReached g q) refl refl
-          head-told true false = refl
-          head-told false h = refl
-      go false i a r h = refl
-
-  -- 17: 'a byte of a queue area that the step needs is not reachable'
-  pub refused-17 : q .stop ≡ 0 → refusedBy 17 result ≡ cause17 g memory q
-  refused-17 z =
-      step-told 17 z
-      ∙ go (noticed g memory q) (pending g memory q) (ahead g memory q) (allReach (g .reach) (ringEntry q) 2) (ltb (entry g memory q) (q .size)) (short g memory q) (usedReached g q) (endOf (chain g memory q))
-      (chain-ends g memory (q .descriptors .0) (q .size) (entry g memory q))
-    where
-      go : (n p a r h s u : Bool) (e : ℕ) → Ends e → told 17 n p a r h s u e ≡ (not n || ((n && p && not a) && not r) || ((((n && p && not a) && r) && h) && eqb e 17) || ((((((n && p && not a) && r) && h) && eqb e 0) && not s) && not u))
-      go false p a r h s u e x = refl
-      go true false a r h s u e x = refl
-      go true true true r h s u e x = refl
-      go true true false false h s u e x = refl
-      go true true false true false s u e x = refl
-      go true true false true true true u _ at0 = refl
-      go true true false true true false true _ at0 = refl
-      go true true false true true false false _ at0 = refl
-      go true true false true true s u _ at17 = refl
-      go true true false true true s u _ at20 = refl
-      go true true false true true s u _ at21 = refl
-
-  -- 18: 'available idx more than the queue size ahead'
-  pub refused-18 : q .stop ≡ 0 → refusedBy 18 result ≡ cause18 g memory q
-  refused-18 z =
-      step-told 18 z
-      ∙ go (noticed g memory q) (pending g memory q) (ahead g memory q) (allReach (g .reach) (ringEntry q) 2) (ltb (entry g memory q) (q .size)) (short g memory q) (usedReached g q) (endOf (chain g memory q))
-      (chain-ends g memory (q .descriptors .0) (q .size) (entry g memory q))
-    where
-      go : (n p a r h s u : Bool) (e : ℕ) → Ends e → told 18 n p a r h s u e ≡ (n && p && a)
-      go false p a r h s u e x = refl
-      go true false a r h s u e x = refl
-      go true true true r h s u e x = refl
-      go true true false false h s u e x = refl
-      go true true false true false s u e x = refl
-      go true true false true true true u _ at0 = refl
-      go true true false true true false true _ at0 = refl
-      go true true false true true false false _ at0 = refl
-      go true true false true true s u _ at17 = refl
-      go true true false true true s u _ at20 = refl
-      go true true false true true s u _ at21 = refl
-
-  -- 19: 'head not below the queue size'
-  pub refused-19 : q .stop ≡ 0 → refusedBy 19 result ≡ cause19 g memory q
-  refused-19 z =
-      step-told 19 z
-      ∙ go (noticed g memory q) (pending g memory q) (ahead g memory q) (allReach (g .reach) (ringEntry q) 2) (ltb (entry g memory q) (q .size)) (short g memory q) (usedReached g q) (endOf (chain g memory q))
-      (chain-ends g memory (q .descriptors .0) (q .size) (entry g memory q))
-    where
-      go : (n p a r h s u : Bool) (e : ℕ) → Ends e → told 19 n p a r h s u e ≡ (((n && p && not a) && r) && not h)
-      go false p a r h s u e x = refl
-      go true false a r h s u e x = refl
-      go true true true r h s u e x = refl
-      go true true false false h s u e x = refl
-      go true true false true false s u e x = refl
-      go true true false true true true u _ at0 = refl
-      go true true false true true false true _ at0 = refl
-      go true true false true true false false _ at0 = refl
-      go true true false true true s u _ at17 = refl
-      go true true false true true s u _ at20 = refl
-      go true true false true true s u _ at21 = refl
-
-  -- 20: CHAIN
-  pub refused-20 : q .stop ≡ 0 → refusedBy 20 result ≡ cause20 g memory q
-  refused-20 z =
-      step-told 20 z
-      ∙ go (noticed g memory q) (pending g memory q) (ahead g memory q) (allReach (g .reach) (ringEntry q) 2) (ltb (entry g memory q) (q .size)) (short g memory q) (usedReached g q) (endOf (chain g memory q))
-      (chain-ends g memory (q .descriptors .0) (q .size) (entry g memory q))
-    where
-      go : (n p a r h s u : Bool) (e : ℕ) → Ends e → told 20 n p a r h s u e ≡ ((((n && p && not a) && r) && h) && eqb e 20)
-      go false p a r h s u e x = refl
-      go true false a r h s u e x = refl
-      go true true true r h s u e x = refl
-      go true true false false h s u e x = refl
-      go true true false true false s u e x = refl
-      go true true false true true true u _ at0 = refl
-      go true true false true true false true _ at0 = refl
-      go true true false true true false false _ at0 = refl
-      go true true false true true s u _ at17 = refl
-      go true true false true true s u _ at20 = refl
-      go true true false true true s u _ at21 = refl
-
-  -- 21: 'a byte of an element is not reachable'
-  pub refused-21 : q .stop ≡ 0 → refusedBy 21 result ≡ cause21 g memory q
-  refused-21 z =
-      step-told 21 z
-      ∙ go (noticed g memory q) (pending g memory q) (ahead g memory q) (allReach (g .reach) (ringEntry q) 2) (ltb (entry g memory q) (q .size)) (short g memory q) (usedReached g q) (endOf (chain g memory q))
-      (chain-ends g memory (q .descriptors .0) (q .size) (entry g memory q))
-    where
-      go : (n p a r h s u : Bool) (e : ℕ) → Ends e → told 21 n p a r h s u e ≡ ((((n && p && not a) && r) && h) && eqb e 21)
-      go false p a r h s u e x = refl
-      go true false a r h s u e x = refl
-      go true true true r h s u e x = refl
-      go true true false false h s u e x = refl
-      go true true false true false s u e x = refl
-      go true true false true true true u _ at0 = refl
-      go true true false true true false true _ at0 = refl
-      go true true false true true false false _ at0 = refl
-      go true true false true true s u _ at17 = refl
-      go true true false true true s u _ at20 = refl
-      go true true false true true s u _ at21 = refl
-
-  -- 22: 'fewer than 24 readable or 10 writable bytes'
-  pub refused-22 : q .stop ≡ 0 → refusedBy 22 result ≡ cause22 g memory q
-  refused-22 z =
-      step-told 22 z
-      ∙ go (noticed g memory q) (pending g memory q) (ahead g memory q) (allReach (g .reach) (ringEntry q) 2) (ltb (entry g memory q) (q .size)) (short g memory q) (usedReached g q) (endOf (chain g memory q))
-      (chain-ends g memory (q .descriptors .0) (q .size) (entry g memory q))
-    where
-      go : (n p a r h s u : Bool) (e : ℕ) → Ends e → told 22 n p a r h s u e ≡ (((((n && p && not a) && r) && h) && eqb e 0) && s)
-      go false p a r h s u e x = refl
-      go true false a r h s u e x = refl
-      go true true true r h s u e x = refl
-      go true true false false h s u e x = refl
-      go true true false true false s u e x = refl
-      go true true false true true true u _ at0 = refl
-      go true true false true true false true _ at0 = refl
-      go true true false true true false false _ at0 = refl
-      go true true false true true s u _ at17 = refl
-      go true true false true true s u _ at20 = refl
-      go true true false true true s u _ at21 = refl
-
-  -- 'accepts its addresses unless 21 ends it there': a step ends with 21 exactly when the last element that it comes to is one that it does not accept
-  pub accepts-by-21 : q .stop ≡ 0 → refusedBy 21 result ≡ eqb (endOf (comesTo g memory q)) 21
-  unfolding comesTo noticesOf headOf endOf
-  accepts-by-21 z =
-      refused-21 z
-      ∙ go (noticed g memory q) (eqb (idx g memory q) (q .«next_available»)) (ahead g memory q) (allReach (g .reach) (ringEntry q) 2) (ltb (entry g memory q) (q .size))
-      ∙ ap (λ (x : Bool). eqb (endOf (cond x (noticesChain g memory q (noticesOf g memory q)) (ended (q .stop)))) 21) (sym (let e : eqb (q .stop) 0 ≡ true = rw z in e))
-    where
-      by-head : (r h : Bool)
-          → ((r && h) && eqb (endOf (chain g memory q)) 21)
-          ≡ eqb (endOf (headChain g memory q (cond r (cond h (head.At (entry g memory q)) (head.Stop 19)) (head.Stop 17)))) 21
-      by-head true true = refl
-      by-head true false = refl
-      by-head false h = refl
-
-      go : (n i a r h : Bool)
-          → (((n && not i && not a) && allReach (g .reach) (ringEntry q) 2 && ltb (entry g memory q) (q .size)) && eqb (endOf (chain g memory q)) 21)
-          ≡ eqb (endOf (noticesChain g memory q (cond n (cond i notices.Idle (cond a (notices.Stop 18) (notices.Offered (notifies (numberAt (g .place) memory (q .available .0) 2))))) (notices.Stop 17)))) 21
-      go true true a r h = refl
-      go true false true r h = refl
-      go true false false r h = by-head (allReach (g .reach) (ringEntry q) 2) (ltb (entry g memory q) (q .size))
-      go false i a r h = refl
-
-  -- 'stopped (same number again)'
-  pub stopped-again : (q .stop ≡ 0 → ⊥) → result ≡ Refused (q .stop)
-  unfolding steppedBy offered
-  stopped-again f =
-      ap (λ (x : Bool). finished g d q memory (cond x (offerNotices g memory q (noticesOf g memory q)) (stop (q .stop))) .result .outcome) (ne-eqb (q .stop) 0 f)
-
-  never-27 : queueOk q ≡ true → refusedBy 27 result ≡ false
-  unfolding queueOk
-  never-27 ok = go (eqb (q .stop) 0) refl
-    where
-      told-27 : (n p a r h s u : Bool) (e : ℕ) → Ends e → told 27 n p a r h s u e ≡ false
-      told-27 false p a r h s u e x = refl
-      told-27 true false a r h s u e x = refl
-      told-27 true true true r h s u e x = refl
-      told-27 true true false false h s u e x = refl
-      told-27 true true false true false s u e x = refl
-      told-27 true true false true true true u _ at0 = refl
-      told-27 true true false true true false true _ at0 = refl
-      told-27 true true false true true false false _ at0 = refl
-      told-27 true true false true true s u _ at17 = refl
-      told-27 true true false true true s u _ at20 = refl
-      told-27 true true false true true s u _ at21 = refl
-
-      small : eqb (q .stop) 0 ≡ false → q .stop ≤ 22
-      small e = last (eqb (q .stop) 0) e (and-snd (areasOk (q .size) (q .descriptors .0) (q .available .0) (q .used .0)) (stopOk (q .stop)) ok)
-        where
-          last : (b : Bool) → b ≡ false → (b || (leb 17 (q .stop) && leb (q .stop) 22)) ≡ true → q .stop ≤ 22
-          last true e h = absurd (never e)
-          last false e h = leb-true _ _ (and-snd (leb 17 (q .stop)) (leb (q .stop) 22) h)
-
-      go : (x : Bool) → eqb (q .stop) 0 ≡ x → refusedBy 27 result ≡ false
-      go true e =
-          step-told 27 (eqb-true (q .stop) 0 e)
-          ∙ told-27 (noticed g memory q) (pending g memory q) (ahead g memory q) (allReach (g .reach) (ringEntry q) 2) (ltb (entry g memory q) (q .size)) (short g memory q) (usedReached g q) (endOf (chain g memory q))
-          (chain-ends g memory (q .descriptors .0) (q .size) (entry g memory q))
-      go false e =
-          ap (refusedBy 27) (stopped-again (eqb-false (q .stop) 0 e)) ∙ ne-eqb (q .stop) 27 (λ z. omega (arith, small e))
-
--- 27: 'a given run list, device or queue record breaks its own rules'
-pub refused-27 : (v : FlatView) (d : MemoryDevice) (q : SplitQueue) (memory : List ℕ) → refusedBy 27 (stepped v d q memory .result .outcome) ≡ not (recordsOk v d q (length memory))
-unfolding stepped recordsOk
-refused-27 v d q memory = go (recordsOk v d q (length memory)) refl
-  where
-    go : (x : Bool) → recordsOk v d q (length memory) ≡ x → refusedBy 27 (stepped v d q memory .result .outcome) ≡ not (recordsOk v d q (length memory))
-    go true e =
-        rw e (never-27 (byView v d) d memory q (and-snd (deviceOk d) (queueOk q) (and-snd (viewOk v (length memory) (d .«region_size»)) (deviceOk d && queueOk q) e)))
+    go : (x : Bool) → areasOk size descriptors available used ≡ x → made size descriptors available used .reply ≡ cond (areasOk size descriptors available used) accepted (plain 16)
+    go true e = rw e
     go false e = rw e
+
+module _ (v : FlatView) (d : MemoryDevice) (q : SplitQueue) (memory : List ℕ) where
+  abbrev g : Guest
+  g = byView v d
+
+  abbrev answer : Answer
+  answer = stepped v d q memory .answer
+
+  abbrev chain : Chain
+  chain = chainOf g memory q (entry g memory q)
+
+  abbrev F : ℕ → Entry
+  F = fetched g memory (q .descriptors .0)
+
+  abbrev N : Descriptor → ℕ → Following
+  N = nextBelow (q .size)
+
+  -- what is left of the chain at a descriptor
+  abbrev rest : ℕ → ℕ → Bool → Chain
+  rest left i late = follow F (reached g) N left i late
+
+  -- ---- the answer that is read off a way
+  abbrev read : Way → Answer
+  read w = finished g d q memory (offerOf g q w) .answer
+
+  read-way : recordsOk v d q (length memory) ≡ true → (w : Way) → wayOf g memory q ≡ w → answer ≡ read w
+  unfolding stepped steppedBy
+  read-way r w e =
+      let s : stepped v d q memory ≡ finished g d q memory (offered g memory q) = rw r in
+      ap (λ (f : Effect MemoryDevice). f .answer) s ∙ ap (λ (x : Way). finished g d q memory (offerOf g q x) .answer) e
+
+  -- and off a chain, by its end, its bytes and the used ring
+  module _ (h : ℕ) (n : Bool) (c : Chain) where
+    abbrev short : Bool
+    short = ltb (total (readable c)) 24 || ltb (total (writable c)) 10
+
+    shape-ended : (k : ℕ) → endOf c ≡ k → (k ≡ 0 → ⊥) → shapeOf c ≡ k
+    unfolding shapeOf
+    shape-ended k e z = rw (ne-eqb (endOf c) 0 (λ x. z (sym e ∙ x))) e
+
+    shape-by : (b : Bool) → endOf c ≡ 0 → short ≡ b → shapeOf c ≡ cond b 22 0
+    unfolding shapeOf
+    shape-by b e s = rw (eq-eqb (endOf c) 0 e, s)
+
+    read-stopped : (k : ℕ) → shapeOf c ≡ k → (k ≡ 0 → ⊥) → read (along h n c) ≡ refused k
+    read-stopped k s z =
+        ap (λ (o : Offer). finished g d q memory o .answer) (chain-ended g q h n c (λ x. z (sym s ∙ x))) ∙ ap refused s
+
+    read-ended : (k : ℕ) → endOf c ≡ k → (k ≡ 0 → ⊥) → read (along h n c) ≡ refused k
+    read-ended k e z = read-stopped k (shape-ended k e z) z
+
+    module _ (e : endOf c ≡ 0) where
+      read-short : short ≡ true → read (along h n c) ≡ refused 22
+      read-short s = read-stopped 22 (shape-by true e s) (λ z. omega arith)
+
+      read-unused : short ≡ false → usedReached g q ≡ false → read (along h n c) ≡ refused 17
+      read-unused s u = ap (λ (o : Offer). finished g d q memory o .answer) (chain-unused g q h n c (shape-by false e s) u)
+
+      read-served : short ≡ false → usedReached g q ≡ true → read (along h n c) ≡ served n
+      read-served s u = ap (λ (o : Offer). finished g d q memory o .answer) (chain-ready g q h n c (shape-by false e s) u)
+
+  -- ---- how far a step came
+  way-chain : Headed v d q memory → wayOf g memory q ≡ along (entry g memory q) (notifies (flags g memory q)) chain
+  way-chain h =
+      let e = h .entered in
+      let o = e .offered in
+      let p = o .pending in
+      let n = p .noticed in
+      way-on g memory q (n .begun .running) (n .flags) (p .new) (o .near) (e .ring) (h .below)
+
+  came : Headed v d q memory → comesTo g memory q ≡ chain
+  came h = ap (λ (w : Way). chainIn w) (way-chain h)
+
+  headed : Headed v d q memory → answer ≡ read (along (entry g memory q) (notifies (flags g memory q)) chain)
+  headed h = read-way (h .entered .offered .pending .noticed .begun .records) _ (way-chain h)
+
+  on-headed : {n i : ℕ} {late : Bool} → On v d q memory n i late → Headed v d q memory
+  on-headed (causes.first h) = h
+  on-headed (causes.next e on f m r x l k) = on-headed on
+
+  on-low : {n i : ℕ} {late : Bool} → On v d q memory n i late → n < q .size
+  on-low (causes.first h) = let l = h .below in omega arith
+  on-low (causes.next e on f m r x l k) = k
+
+  fine : (late : Bool) (e : Descriptor) → misplaced late e ≡ false → reached g e ≡ true → stopAt (reached g) late e ≡ 0
+  fine late e m r = rw (m, r)
+
+  -- the chain ends as what is left of it at a descriptor that the step comes to
+  on-end : {n i : ℕ} {late : Bool} → On v d q memory n i late → endOf chain ≡ endOf (rest (q .size - n) i late)
+  unfolding chainAt endOf
+  on-end (causes.first h) = let z : q .size ≡ q .size - 0 = omega arith in ap (λ (k : ℕ). endOf (rest k (entry g memory q) false)) z
+  on-end (causes.next {n} {i} {late} e on f m r x l k) =
+      let p : 0 < q .size - n = omega arith in
+      let z : q .size - n - 1 ≡ q .size - (n + 1) = omega arith in
+      on-end on ∙ ap endOf (follow-next F (reached g) N i late e f (fine late e m r) (q .size - n) (e .next) p x (next-below (q .size) i e l))
+      ∙ ap (λ (k : ℕ). endOf (rest k (e .next) (isWritable e))) z
+
+  some-left : {n i : ℕ} {late : Bool} → On v d q memory n i late → 0 < q .size - n
+  some-left on = let l = on-low on in omega arith
+
+  ends : {n i : ℕ} {late : Bool} → On v d q memory n i late → (k : ℕ) → endOf (rest (q .size - n) i late) ≡ k → (k ≡ 0 → ⊥) → answer ≡ refused k
+  ends on k e z = headed (on-headed on) ∙ read-ended _ _ chain k (on-end on ∙ e) z
+
+  -- a descriptor that ends it by itself
+  stops : {n : ℕ} {late : Bool} {e : Descriptor} → Meets v d q memory n late e → (k : ℕ) → k ≡ stopAt (reached g) late e → (k ≡ 0 → ⊥) → answer ≡ refused k
+  stops {n} {late} {e} m k s z = ends (m .on) k (follow-stopped F (reached g) N (m .place) late e (m .is) (q .size - n) k (some-left (m .on)) s z) z
+
+  -- or by what follows it
+  follows : {n : ℕ} {e : Descriptor} (a : Accepts v d q memory n e) (c : Chain) → rest (q .size - n) (a .meets .place) (a .late) ≡ element e c → (k : ℕ) → endOf c ≡ k → (k ≡ 0 → ⊥) → answer ≡ refused k
+  unfolding endOf
+  follows a c f k e z = ends (a .meets .on) k (ap endOf f ∙ e) z
+
+  strays : {n : ℕ} {e : Descriptor} → Accepts v d q memory n e → hasNext e ≡ true → q .size ≤ e .next → answer ≡ refused 20
+  unfolding endOf
+  strays {n} {e} a x l =
+      let m = a .meets in
+      follows a (ended 20)
+      (follow-astray F (reached g) N (m .place) (a .late) e (m .is) (fine (a .late) e (a .placed) (a .reach)) (q .size - n) (some-left (m .on)) x (next-astray (q .size) (m .place) e l))
+      20 refl (λ z. omega arith)
+
+  pub whole-headed : Whole v d q memory → Headed v d q memory
+  whole-headed w = on-headed (w .accepted .meets .on)
+
+  whole-end : Whole v d q memory → endOf chain ≡ 0
+  unfolding endOf
+  whole-end w =
+      let a = w .accepted in
+      let m = a .meets in
+      on-end (m .on)
+      ∙ ap endOf (follow-last F (reached g) N (m .place) (a .late) (w .last) (m .is) (fine (a .late) (w .last) (a .placed) (a .reach)) (q .size - w .others) (some-left (m .on)) (w .end))
+
+  long-enough : Shaped v d q memory → (ltb (total (readable chain)) 24 || ltb (total (writable chain)) 10) ≡ false
+  long-enough s =
+      let e = came (whole-headed (s .whole)) in
+      let r : 24 ≤ total (readable chain) = subst (λ (c : Chain). 24 ≤ total (readable c)) e (s .request) in
+      let w : 10 ≤ total (writable chain) = subst (λ (c : Chain). 10 ≤ total (writable c)) e (s .response) in
+      rw (le-ltb (total (readable chain)) 24 r, le-ltb (total (writable chain)) 10 w)
+
+  too-short : Whole v d q memory → (total (readable (comesTo g memory q)) < 24) ⊎ (total (writable (comesTo g memory q)) < 10)
+      → (ltb (total (readable chain)) 24 || ltb (total (writable chain)) 10) ≡ true
+  too-short w s = go (subst (λ (c : Chain). (total (readable c) < 24) ⊎ (total (writable c) < 10)) (came (whole-headed w)) s)
+    where
+      either : (x y : Bool) → y ≡ true → (x || y) ≡ true
+      either true y e = refl
+      either false y e = e
+
+      go : (total (readable chain) < 24) ⊎ (total (writable chain) < 10) → (ltb (total (readable chain)) 24 || ltb (total (writable chain)) 10) ≡ true
+      go (inl l) = rw (lt-ltb (total (readable chain)) 24 l)
+      go (inr l) = either (ltb (total (readable chain)) 24) (ltb (total (writable chain)) 10) (lt-ltb (total (writable chain)) 10 l)
+
+  -- ---- each cause gives its answer
+  at-cause : {a : Answer} → Cause v d q memory a → answer ≡ a
+  unfolding stepped endOf
+  at-cause (causes.records r) =
+      let s : stepped v d q memory ≡ unmoved (refused 27) d q memory = rw r in
+      ap (λ (f : Effect MemoryDevice). f .answer) s
+  at-cause (causes.again r s) = read-way r _ (way-stopped g memory q s)
+  at-cause (causes.notices b f) = read-way (b .records) _ (way-unnoticed g memory q (b .running) f)
+  at-cause (causes.ring o r) =
+      let p = o .pending in
+      let n = p .noticed in
+      read-way (n .begun .records) _ (way-ring g memory q (n .begun .running) (n .flags) (p .new) (o .near) r)
+  at-cause (causes.table {n} {i} {late} on e) = ends on 17 (follow-out F (reached g) N i late (q .size - n) (some-left on) e) (λ z. omega arith)
+  at-cause (causes.used s u) = headed (whole-headed (s .whole)) ∙ read-unused _ _ chain (whole-end (s .whole)) (long-enough s) u
+  at-cause (causes.seen n s) = read-way (n .begun .records) _ (way-quiet g memory q (n .begun .running) (n .flags) s)
+  at-cause (causes.ahead p l) =
+      let n = p .noticed in
+      read-way (n .begun .records) _ (way-ahead g memory q (n .begun .running) (n .flags) (p .new) l)
+  at-cause (causes.head e l) =
+      let o = e .offered in
+      let p = o .pending in
+      let n = p .noticed in
+      read-way (n .begun .records) _ (way-head g memory q (n .begun .running) (n .flags) (p .new) (o .near) (e .ring) l)
+  at-cause (causes.indirect {n} {late} {e} m i) = stops m 20 (rw i) (λ z. omega arith)
+  at-cause (causes.order {n} {e} m w) = stops m 20 (go (isIndirect e) refl) (λ z. omega arith)
+    where
+      go : (b : Bool) → isIndirect e ≡ b → 20 ≡ stopAt (reached g) true e
+      go true i = rw i
+      go false i = rw (i, w)
+  at-cause (causes.astray a x l) = strays a x l
+  at-cause (causes.long {n} {e} a x l) = go (decLt (e .next) (q .size))
+    where
+      go : Dec (e .next < q .size) → answer ≡ refused 20
+      go (yes h) =
+          let m = a .meets in
+          let z : q .size - n - 1 ≡ 0 = omega arith in
+          follows a (rest (q .size - n - 1) (e .next) (isWritable e))
+          (follow-next F (reached g) N (m .place) (a .late) e (m .is) (fine (a .late) e (a .placed) (a .reach)) (q .size - n) (e .next) (some-left (m .on)) x (next-below (q .size) (m .place) e h))
+          20 (follow-none F (reached g) N (e .next) (isWritable e) (q .size - n - 1) z) (λ z. omega arith)
+      go (no h) = strays a x (omega arith)
+  at-cause (causes.reach m p r) = stops m 21 (rw (p, r)) (λ z. omega arith)
+  at-cause (causes.short w s) = headed (whole-headed w) ∙ read-short _ _ chain (whole-end w) (too-short w s)
+  at-cause (causes.returned s u) = headed (whole-headed (s .whole)) ∙ read-served _ _ chain (whole-end (s .whole)) (long-enough s) u
+
+  -- ---- every step has one
+  -- where a chain ends
+  data Ended : ℕ → Type 0 where
+    whole : Whole v d q memory → Ended 0
+    by : {k : ℕ} → (k ≡ 0 → ⊥) → Cause v d q memory (refused k) → Ended k
+
+  -- one descriptor, of which `left` more may follow
+  module _ (left n i : ℕ) (late : Bool) (s : n + suc left ≡ q .size) (on : On v d q memory n i late)
+      (after : (j : ℕ) (w : Bool) → On v d q memory (n + 1) j w → n + 1 + left ≡ q .size → Ended (endOf (rest left j w))) where
+    meets : (e : Descriptor) → F i ≡ here e → Meets v d q memory n late e
+    meets e f = record { place = i; on = on; is = f }
+
+    badly : (e : Descriptor) → F i ≡ here e → misplaced late e ≡ true → Cause v d q memory (refused 20)
+    badly e f m = go (isIndirect e) refl late refl (isWritable e) refl m
+      where
+        go : (x : Bool) → isIndirect e ≡ x → (y : Bool) → late ≡ y → (z : Bool) → isWritable e ≡ z → (x || (y && not z)) ≡ true → Cause v d q memory (refused 20)
+        go true p y l z w m = causes.indirect (meets e f) p
+        go false p true l false w m = causes.order (subst (λ (b : Bool). Meets v d q memory n b e) l (meets e f)) w
+        go false p true l true w m = absurd (never (sym m))
+        go false p false l z w m = absurd (never (sym m))
+
+    on-from : (e : Descriptor) → F i ≡ here e → misplaced late e ≡ false → reached g e ≡ true → Ended (endOf (rest (suc left) i late))
+    unfolding endOf
+    on-from e f m r = go (hasNext e) refl
+      where
+        accepts : Accepts v d q memory n e
+        accepts = record { late = late; meets = meets e f; placed = m; reach = r }
+
+        next : hasNext e ≡ true → Dec (e .next < q .size) → Dec (n + 1 < q .size) → Ended (endOf (rest (suc left) i late))
+        next x (no l) k =
+            subst Ended (sym (ap endOf (follow-astray F (reached g) N i late e f (fine late e m r) (suc left) (omega arith) x (next-astray (q .size) i e (omega arith)))))
+            (by {k = 20} (λ z. omega arith) (causes.astray accepts x (omega arith)))
+        next x (yes l) (no k) =
+            let z : suc left - 1 ≡ 0 = omega arith in
+            subst Ended
+            (sym (ap endOf (follow-next F (reached g) N i late e f (fine late e m r) (suc left) (e .next) (omega arith) x (next-below (q .size) i e l)) ∙ follow-none F (reached g) N (e .next) (isWritable e) (suc left - 1) z))
+            (by {k = 20} (λ z. omega arith) (causes.long accepts x (omega arith)))
+        next x (yes l) (yes k) =
+            let z : left ≡ suc left - 1 = omega arith in
+            subst Ended
+            (ap (λ (j : ℕ). endOf (rest j (e .next) (isWritable e))) z
+            ∙ sym (ap endOf (follow-next F (reached g) N i late e f (fine late e m r) (suc left) (e .next) (omega arith) x (next-below (q .size) i e l))))
+            (after (e .next) (isWritable e) (causes.next e on f m r x l k) (omega arith))
+
+        go : (b : Bool) → hasNext e ≡ b → Ended (endOf (rest (suc left) i late))
+        go true x = next x (decLt (e .next) (q .size)) (decLt (n + 1) (q .size))
+        go false x =
+            subst Ended (sym (ap endOf (follow-last F (reached g) N i late e f (fine late e m r) (suc left) (omega arith) x)))
+            (whole (record { others = n; last = e; accepted = accepts; end = x }))
+
+    one : Ended (endOf (rest (suc left) i late))
+    one = go (F i) refl
+      where
+        stopped : (e : Descriptor) → F i ≡ here e → (k : ℕ) → k ≡ stopAt (reached g) late e → (k ≡ 0 → ⊥) → Cause v d q memory (refused k) → Ended (endOf (rest (suc left) i late))
+        stopped e f k x z c = subst Ended (sym (follow-stopped F (reached g) N i late e f (suc left) k (omega arith) x z)) (by z c)
+
+        go : (x : Entry) → F i ≡ x → Ended (endOf (rest (suc left) i late))
+        go out f = subst Ended (sym (follow-out F (reached g) N i late (suc left) (omega arith) f)) (by {k = 17} (λ z. omega arith) (causes.table on f))
+        go (here e) f = met (misplaced late e) refl (reached g e) refl
+          where
+            met : (x : Bool) → misplaced late e ≡ x → (y : Bool) → reached g e ≡ y → Ended (endOf (rest (suc left) i late))
+            met true m y r = stopped e f 20 (rw m) (λ z. omega arith) (badly e f m)
+            met false m false r = stopped e f 21 (rw (m, r)) (λ z. omega arith) (causes.reach (meets e f) m r)
+            met false m true r = on-from e f m r
+
+  cover : (left n i : ℕ) (late : Bool) → n + left ≡ q .size → On v d q memory n i late → Ended (endOf (rest left i late))
+  cover zero n i late s on = absurd (let l = on-low on in omega arith)
+  cover (suc left) n i late s on = one left n i late s on (λ j w o e. cover left (n + 1) j w e o)
+
+  cause-of : (a : Answer) → Cause v d q memory a → Cause v d q memory answer
+  cause-of a c = subst (Cause v d q memory) (sym (at-cause c)) c
+
+  -- a step that came to its chain
+  on-chain : Headed v d q memory → Cause v d q memory answer
+  unfolding chainAt
+  on-chain h = go (cover (q .size) 0 (entry g memory q) false (omega arith) (causes.first h))
+    where
+      shaped : Whole v d q memory → 24 ≤ total (readable chain) → 10 ≤ total (writable chain) → Shaped v d q memory
+      shaped w r p =
+          record {
+            whole = w;
+            request = subst (λ (c : Chain). 24 ≤ total (readable c)) (sym (came h)) r;
+            response = subst (λ (c : Chain). 10 ≤ total (writable c)) (sym (came h)) p;
+          }
+
+      back : (total (readable chain) < 24) ⊎ (total (writable chain) < 10) → (total (readable (comesTo g memory q)) < 24) ⊎ (total (writable (comesTo g memory q)) < 10)
+      back s = subst (λ (c : Chain). (total (readable c) < 24) ⊎ (total (writable c) < 10)) (sym (came h)) s
+
+      returned : Shaped v d q memory → (u : Bool) → usedReached g q ≡ u → Cause v d q memory answer
+      returned s true u = cause-of _ (causes.returned s u)
+      returned s false u = cause-of _ (causes.used s u)
+
+      by-bytes : Whole v d q memory → Dec (total (readable chain) < 24) → Dec (total (writable chain) < 10) → Cause v d q memory answer
+      by-bytes w (yes r) p = cause-of _ (causes.short w (back (inl r)))
+      by-bytes w (no r) (yes p) = cause-of _ (causes.short w (back (inr p)))
+      by-bytes w (no r) (no p) = returned (shaped w (omega arith) (omega arith)) (usedReached g q) refl
+
+      go : {k : ℕ} → Ended k → Cause v d q memory answer
+      go (whole w) = by-bytes w (decLt (total (readable chain)) 24) (decLt (total (writable chain)) 10)
+      go (by z c) = cause-of _ c
+
+  caused : Cause v d q memory answer
+  caused = judged (recordsOk v d q (length memory)) refl
+    where
+      on-entry : Entered v d q memory → Dec (entry g memory q < q .size) → Cause v d q memory answer
+      on-entry e (yes l) = on-chain (record { entered = e; below = l })
+      on-entry e (no l) = cause-of _ (causes.head e (omega arith))
+
+      on-ring : Offered v d q memory → (b : Bool) → allReach (g .reach) (ringEntry q) 2 ≡ b → Cause v d q memory answer
+      on-ring o true r = on-entry (record { offered = o; ring = r }) (decLt (entry g memory q) (q .size))
+      on-ring o false r = cause-of _ (causes.ring o r)
+
+      on-offer : Pending v d q memory → Dec (q .size < offers g memory q) → Cause v d q memory answer
+      on-offer p (yes l) = cause-of _ (causes.ahead p l)
+      on-offer p (no l) = on-ring (record { pending = p; near = omega arith }) (allReach (g .reach) (ringEntry q) 2) refl
+
+      on-notice : Noticed v d q memory → (b : Bool) → eqb (idx g memory q) (q .«next_available») ≡ b → Cause v d q memory answer
+      on-notice n true e = cause-of _ (causes.seen n (eqb-true (idx g memory q) (q .«next_available») e))
+      on-notice n false e = on-offer (record { noticed = n; new = eqb-false (idx g memory q) (q .«next_available») e }) (decLt (q .size) (offers g memory q))
+
+      on-begun : Begun v d q memory → (b : Bool) → allReach (g .reach) (q .available .0) 4 ≡ b → Cause v d q memory answer
+      on-begun b true f = on-notice (record { begun = b; flags = f }) (eqb (idx g memory q) (q .«next_available»)) refl
+      on-begun b false f = cause-of _ (causes.notices b f)
+
+      on-records : recordsOk v d q (length memory) ≡ true → (b : Bool) → eqb (q .stop) 0 ≡ b → Cause v d q memory answer
+      on-records r true z = on-begun (record { records = r; running = eqb-true (q .stop) 0 z }) (allReach (g .reach) (q .available .0) 4) refl
+      on-records r false z = cause-of _ (causes.again r (eqb-false (q .stop) 0 z))
+
+      judged : (b : Bool) → recordsOk v d q (length memory) ≡ b → Cause v d q memory answer
+      judged true r = on-records r (eqb (q .stop) 0) refl
+      judged false r = cause-of _ (causes.records r)
+
+  -- Demand 2: 17 to 22 and 27, idle and served, each exactly at its cause. The causes cover every step, and exclude each other.
+  pub demand2 : Exact v d q memory answer
+  demand2 = record { cause = caused; only = λ other c. sym (at-cause c) }

@@ -14,10 +14,10 @@ use Rattle.device_words.specs.Words.{isDevice, deviceOf, deviceWords}
 use Rattle.device_words.proofs.TableLaws.{table-length}
 use Rattle.device_words.proofs.DeviceWords.{device-at, device-none, none-refused, plugged-length, pins-length, words-back}
 use Rattle.guest_view.specs.View.{viewOk}
-use Rattle.virtqueue.specs.Moved.{laid}
+use Rattle.virtqueue.specs.Does.{laid}
 use Rattle.virtqueue.specs.Queue.{queueOk}
 use Rattle.guest_view.specs.Guest.{Guest, byView}
-use Rattle.virtqueue.specs.Step.{Offer, stop, idle, ready, offered, requestBytes, carrying, Effect, finished, steppedBy, recordsOk, stepped}
+use Rattle.virtqueue.specs.Step.{Offer, stop, nothing, ready, offered, requestBytes, carrying, Effect, finished, steppedBy, recordsOk, stepped}
 use Rattle.virtqueue.specs.declared.queue.SplitQueue.{SplitQueue}
 
 -- the lengths of a record's two tables
@@ -40,13 +40,13 @@ carried-tables d s t = go (isAck (answered d (requestOf s))) (eqb (requestOf s .
     go true false false false = t
     go false x y z = t
 
-pub step-tables : (g : Guest) (d : MemoryDevice) (q : SplitQueue) (memory : List ℕ) → Tables d → Tables (steppedBy g d q memory .result .device)
+pub step-tables : (g : Guest) (d : MemoryDevice) (q : SplitQueue) (memory : List ℕ) → Tables d → Tables (steppedBy g d q memory .device)
 unfolding steppedBy
 step-tables g d q memory t = go (offered g memory q)
   where
-    go : (o : Offer) → Tables (finished g d q memory o .result .device)
+    go : (o : Offer) → Tables (finished g d q memory o .device)
     go (stop n) = t
-    go idle = t
+    go nothing = t
     go (ready n notify c) = carried-tables d (requestBytes (g .place) memory c) t
 
 -- words stand for a record whose words they are

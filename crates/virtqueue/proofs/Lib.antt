@@ -3,6 +3,7 @@ pub mod Demand2
 pub mod Demand3
 pub mod DeviceLaws
 pub mod MadeView
+pub mod MadeWords
 pub mod QueueLaws
 pub mod ReachedLaws
 pub mod RouteAllLaws
@@ -13,6 +14,8 @@ pub mod RunSteps
 pub mod StepLaws
 pub mod TakeLaws
 pub mod TreeLaws
+pub mod Unmanaged
 pub mod ValueLaws
 pub mod ViewWords
+pub mod WayLaws
 pub mod Worked

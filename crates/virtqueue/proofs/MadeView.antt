@@ -60,19 +60,29 @@ managed-size m (suc c) n h e single =
     (eq-or-lt-of-le {n = n} {m = c} (omega arith))
 
 module _ (m : RegionMap) (memory : ℕ) (ok : Accepted m memory) (few : length (flatList m) ≤ 256) where
-  -- a managed range lies in the managed region
-  managed-inside : (k : ℕ) → k < viewHolding (flatList m) .count → rangeOf (viewHolding (flatList m)) k .kind ≡ managed → lastOffset (rangeOf (viewHolding (flatList m)) k) < regionSize m
+  -- a managed range leads into a managed region of the map
+  pub record InManaged (r : FlatRange) : Type 0 where
+    pub below : r .region < m .count
+    pub kind : region m (r .region) .kind ≡ managed
+    pub inside : lastOffset r < region m (r .region) .size
+
+  pub managed-range : (k : ℕ) → k < viewHolding (flatList m) .count → rangeOf (viewHolding (flatList m)) k .kind ≡ managed → InManaged (rangeOf (viewHolding (flatList m)) k)
   unfolding viewHolding
-  managed-inside k h e = go (getD (flatList m) k noRange) (List·getD-append (flatList m) (replicate (256 - length (flatList m)) noRange) noRange k h) (run-of (backingOf m) (flatList m) k (list-longest m) h) e
+  managed-range k h e = go (getD (flatList m) k noRange) (List·getD-append (flatList m) (replicate (256 - length (flatList m)) noRange) noRange k h) (run-of (backingOf m) (flatList m) k (list-longest m) h) e
     where
       go : (r : FlatRange) → rangeOf (viewHolding (flatList m)) k ≡ r → Entry (backingOf m) r × (lookup (flatList m) (r .last .0) ≡ answerOf r (r .last .0))
-          → rangeOf (viewHolding (flatList m)) k .kind ≡ managed → lastOffset (rangeOf (viewHolding (flatList m)) k) < regionSize m
+          → rangeOf (viewHolding (flatList m)) k .kind ≡ managed → InManaged (rangeOf (viewHolding (flatList m)) k)
       go r is q e =
           let leaf = root-leaf m memory ok (r .last .0) (r .region) (record { 0 = lastOffset r }) (sym (list-gives m (r .last .0)) ∙ q .1) in
           let kind : region m (r .region) .kind ≡ managed = sym (q .0 .kind) ∙ ap (λ (x : FlatRange). x .kind) (sym is) ∙ e in
-          let size = managed-size m (m .count) (r .region) (leaf .below) kind (accepted-sound m memory ok .single) in
-          let within = leaf .inside in
-          subst (λ (x : FlatRange). lastOffset x < regionSize m) (sym is) (omega (arith, size))
+          subst InManaged (sym is) (record { below = leaf .below; kind = kind; inside = leaf .inside })
+
+  -- and so lies in the managed region
+  managed-inside : (k : ℕ) → k < viewHolding (flatList m) .count → rangeOf (viewHolding (flatList m)) k .kind ≡ managed → lastOffset (rangeOf (viewHolding (flatList m)) k) < regionSize m
+  managed-inside k h e =
+      let r = managed-range k h e in
+      let within = r .inside in
+      omega (arith, managed-size m (m .count) (rangeOf (viewHolding (flatList m)) k .region) (r .below) (r .kind) (accepted-sound m memory ok .single))
 
   -- with any bound that the managed ranges keep
   made-ok : (bound : ℕ) → ((k : ℕ) → k < viewHolding (flatList m) .count → rangeOf (viewHolding (flatList m)) k .kind ≡ managed → lastOffset (rangeOf (viewHolding (flatList m)) k) < bound)

@@ -7,10 +7,8 @@ use native.Mathlib.Omega.{arith}
 use lib.ListN.{getD}
 use Rattle.region_map.proofs.Bools.{and-fst, and-snd}
 use Rattle.guest_view.specs.Guest.{Guest, allReach, addresses, byteAt, numberAt}
-use Rattle.virtqueue.specs.Chain.{Chain, whole, ended, refused, element, Following, onward, astray, nextBelow, goOn, misplaced, hasNext, isWritable, visit, follow, readable, writable, firstBytes, fetched, reached, chainAt}
+use Rattle.virtqueue.specs.Chain.{Chain, Entry, out, here, whole, ended, rejected, element, Following, onward, astray, nextBelow, goOn, misplaced, hasNext, isWritable, visit, follow, readable, writable, firstBytes, fetched, reached, chainAt}
 use Rattle.virtqueue.specs.declared.chain.Descriptor.{Descriptor}
-use Rattle.virtqueue.specs.declared.chain.Fetched.{Fetched}
-use Rattle.virtqueue.specs.declared.chain.Fetched.the-variants.{Out, Here}
 
 -- a fact of each of a list
 abbrev pub Every : {A : Type 0} → (A → Type 0) → List A → Type 0
@@ -65,16 +63,16 @@ module _ (reach : ℕ → Bool) where
   abbrev pub Judged : Chain → Type 0
   Judged whole = Unit {0}
   Judged (ended k) = Unit {0}
-  Judged (refused d) = allReach reach (d .addr .0) (d .length) ≡ false
+  Judged (rejected d) = allReach reach (d .addr .0) (d .length) ≡ false
   Judged (element d c) = Whole d × Judged c
 
   abbrev test : Descriptor → Bool
   test d = allReach reach (d .addr .0) (d .length)
 
-  visit-judged : (next : Descriptor → ℕ → Following) (i : ℕ) (late : Bool) (rest : ℕ → Bool → Chain) → ((j : ℕ) (w : Bool) → Judged (rest j w)) → (x : Fetched) → Judged (visit test next i late rest x)
+  visit-judged : (next : Descriptor → ℕ → Following) (i : ℕ) (late : Bool) (rest : ℕ → Bool → Chain) → ((j : ℕ) (w : Bool) → Judged (rest j w)) → (x : Entry) → Judged (visit test next i late rest x)
   unfolding visit
-  visit-judged next i late rest f Out = tt
-  visit-judged next i late rest f (Here d) = go (misplaced late d) (test d) refl
+  visit-judged next i late rest f out = tt
+  visit-judged next i late rest f (here d) = go (misplaced late d) (test d) refl
     where
       on : (x : Bool) (n : Following) → Judged (cond x (goOn (λ j. rest j (isWritable d)) n) whole)
       on true (onward j) = f j (isWritable d)
@@ -82,12 +80,12 @@ module _ (reach : ℕ → Bool) where
       on false n = tt
 
       go : (x y : Bool) → test d ≡ y
-          → Judged (cond x (ended 20) (cond y (element d (cond (hasNext d) (goOn (λ j. rest j (isWritable d)) (next d i)) whole)) (refused d)))
+          → Judged (cond x (ended 20) (cond y (element d (cond (hasNext d) (goOn (λ j. rest j (isWritable d)) (next d i)) whole)) (rejected d)))
       go true y e = tt
       go false true e = (e, on (hasNext d) (next d i))
       go false false e = e
 
-  pub follow-judged : (fetch : ℕ → Fetched) (next : Descriptor → ℕ → Following) (left i : ℕ) (late : Bool) → Judged (follow fetch test next left i late)
+  pub follow-judged : (fetch : ℕ → Entry) (next : Descriptor → ℕ → Following) (left i : ℕ) (late : Bool) → Judged (follow fetch test next left i late)
   unfolding follow
   follow-judged fetch next zero i late = tt
   follow-judged fetch next (suc left) i late = visit-judged next i late (follow fetch test next left) (λ j w. follow-judged fetch next left j w) (fetch i)
@@ -96,7 +94,7 @@ module _ (reach : ℕ → Bool) where
   unfolding readable
   every-readable whole p = tt
   every-readable (ended k) p = tt
-  every-readable (refused d) p = tt
+  every-readable (rejected d) p = tt
   every-readable (element d c) p = go (isWritable d) (every-readable c (p .1))
     where
       go : (x : Bool) → Every Whole (readable c) → Every Whole (cond x (readable c) (d ∷ readable c))
@@ -107,7 +105,7 @@ module _ (reach : ℕ → Bool) where
   unfolding writable
   every-writable whole p = tt
   every-writable (ended k) p = tt
-  every-writable (refused d) p = tt
+  every-writable (rejected d) p = tt
   every-writable (element d c) p = go (isWritable d) (every-writable c (p .1))
     where
       go : (x : Bool) → Every Whole (writable c) → Every Whole (cond x (d ∷ writable c) (writable c))

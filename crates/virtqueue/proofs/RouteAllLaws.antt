@@ -19,9 +19,7 @@ use Rattle.device_words.proofs.DeviceWords.{device-at, plugged-length}
 use Rattle.device_words.proofs.RuleLaws.{device-valid}
 use Rattle.guest_view.specs.Guest.{leafAt}
 use Rattle.guest_view.specs.View.{viewOk, noRegionBound}
-use Rattle.virtqueue.specs.Route.{routed, routedWith, routedWithout, answerWords, answersTo, answersFit, allRouted, allWith, allWithout}
-use Rattle.virtqueue.specs.declared.route.RouteAnswer.{RouteAnswer}
-use Rattle.virtqueue.specs.declared.route.RouteAnswer.the-variants.{Refused, Memory, Port}
+use Rattle.virtqueue.specs.Route.{Routed, refused, toMemory, toPort, routed, routedWith, routedWithout, answerWords, answersTo, answersFit, allRouted, allWith, allWithout}
 use Rattle.map_records.proofs.StoreLaws.{stored, sets-append, over}
 use Rattle.virtqueue.proofs.RouteLaws.{nothing-plugged}
 
@@ -51,12 +49,12 @@ module _ (accesses answers : List ℕ) where
       omega (arith, eqb-true (length accesses % 2) 0 (and-fst x y e), eqb-true (length answers) (2 * length accesses) (and-snd x y e))
 
 -- ---- the answers in turn
-answer-length : (r : RouteAnswer) → length (answerWords r) ≡ 4
-answer-length (Refused n) = refl
-answer-length (Memory p) = refl
-answer-length (Port p o) = refl
+answer-length : (r : Routed) → length (answerWords r) ≡ 4
+answer-length (refused n) = refl
+answer-length (toMemory p) = refl
+answer-length (toPort p o) = refl
 
-module _ (f : ℕ → ℕ → RouteAnswer) (accesses : List ℕ) where
+module _ (f : ℕ → ℕ → Routed) (accesses : List ℕ) where
   answers-length : (i n : ℕ) → length (answersTo f accesses i n) ≡ 4 * n
   unfolding answersTo
   answers-length i zero = refl
@@ -91,12 +89,12 @@ module _ (f : ℕ → ℕ → RouteAnswer) (accesses : List ℕ) where
   answers-end w at i n h = let e : n - i ≡ 0 = omega arith in rw e
 
 -- ---- the records judged once
-module _ (ok : Bool) (f : ℕ → ℕ → RouteAnswer) (accesses answers : List ℕ) where
+module _ (ok : Bool) (f : ℕ → ℕ → Routed) (accesses answers : List ℕ) where
   pub all-refused : (ok && answersFit accesses answers) ≡ false → allRouted ok f accesses answers ≡ record { number = 27; answers = answers }
   unfolding allRouted
   all-refused e = rw e
 
-  all-answered : (ok && answersFit accesses answers) ≡ true → (g : ℕ → ℕ → RouteAnswer) → f ≡ g
+  all-answered : (ok && answersFit accesses answers) ≡ true → (g : ℕ → ℕ → Routed) → f ≡ g
       → allRouted ok f accesses answers ≡ record { number = 0; answers = answersTo g accesses 0 (length accesses / 2) }
   unfolding allRouted
   all-answered e g s = rw (e, s)
@@ -129,7 +127,7 @@ module _ (v : FlatView) (memory : ℕ) (d : MemoryDevice) where
       go true false e = refl
       go false y e = refl
 
-  pub refused-with : (viewOk v memory (d .«region_size») && deviceOk d) ≡ false → (a w : ℕ) → Refused 27 ≡ routedWith v memory d a w
+  pub refused-with : (viewOk v memory (d .«region_size») && deviceOk d) ≡ false → (a w : ℕ) → refused 27 ≡ routedWith v memory d a w
   unfolding routedWith
   refused-with e a w = rw e
 
@@ -145,7 +143,7 @@ module _ (v : FlatView) (memory : ℕ) (d : MemoryDevice) where
         all-answered both (routedWith v memory d) accesses answers (and-true both (answersFit accesses answers) ok fit) (routed (leafAt (entries v)) (pluggedIn block table)) judged-with
 
 module _ (v : FlatView) (memory : ℕ) where
-  pub refused-without : viewOk v memory noRegionBound ≡ false → (a w : ℕ) → Refused 27 ≡ routedWithout v memory a w
+  pub refused-without : viewOk v memory noRegionBound ≡ false → (a w : ℕ) → refused 27 ≡ routedWithout v memory a w
   unfolding routedWithout
   refused-without e a w = rw e
 

@@ -14,6 +14,8 @@ use Rattle.map_records.specs.Map.{mmio, managed}
 use Rattle.region_map.specs.FlatList.{inside, lookup, answerOf}
 use Rattle.map_records.specs.View.{entries, noRange}
 use Rattle.map_records.specs.View.{rangeOf}
+use Rattle.region_map.specs.Reply.{plain}
+use Rattle.region_map.specs.Resolve as look
 use Rattle.region_map.specs.declared.resolve.Resolved.{Resolved}
 use Rattle.region_map.specs.declared.resolve.Resolved.the-variants as resolved
 use Rattle.map_records.specs.declared.view.FlatRange.{FlatRange}
@@ -26,10 +28,8 @@ use Rattle.device_words.proofs.RuleLaws.{blocks-mono}
 use Rattle.guest_view.specs.Guest.{Leaf, nowhere, leaf, leafIn, leafAt}
 use Rattle.guest_view.specs.View.{viewOk, noRegionBound}
 use Rattle.virtqueue.specs.Look.{lookedUp}
-use Rattle.virtqueue.specs.Route.{widthOk, isNowhere, follows, isOpen, target, routed}
+use Rattle.virtqueue.specs.Route.{refused, toMemory, toPort, widthOk, isNowhere, follows, isOpen, target, routed}
 use Rattle.guest_view.specs.Contracts.{Ordered, Spot}
-use Rattle.virtqueue.specs.declared.view.LookUp.the-variants as answer
-use Rattle.virtqueue.specs.declared.route.RouteAnswer.the-variants.{Refused, Memory, Port}
 use Rattle.guest_view.proofs.FindLaws.{at-range}
 use Rattle.guest_view.proofs.ReachLaws.{same-block}
 
@@ -49,16 +49,16 @@ lookup-leaf (x ∷ xs) a = go (inside x a) (lookup-leaf xs a)
     go false e = e
 
 module _ (v : FlatView) (memory a : ℕ) where
-  pub looked-record : viewOk v memory noRegionBound ≡ false → lookedUp v memory a ≡ answer.Record
+  pub looked-record : viewOk v memory noRegionBound ≡ false → lookedUp v memory a ≡ look.refused (plain 27)
   unfolding lookedUp
   looked-record e = rw e
 
   module _ (ok : viewOk v memory noRegionBound ≡ true) (r : ℕ) (s : Spot v a r) where
-    pub looked-at : r < v .count → lookedUp v memory a ≡ answer.At (rangeOf v r .region) (record { 0 = rangeOf v r .offset .0 + (a - rangeOf v r .first .0) })
+    pub looked-at : r < v .count → lookedUp v memory a ≡ look.leads (resolved.At (rangeOf v r .region) (record { 0 = rangeOf v r .offset .0 + (a - rangeOf v r .first .0) }))
     unfolding lookedUp
     looked-at h = rw (ok, lookup-leaf (entries v) a, s .found h)
 
-    pub looked-nothing : v .count ≤ r → lookedUp v memory a ≡ answer.Nothing
+    pub looked-nothing : v .count ≤ r → lookedUp v memory a ≡ look.leads resolved.Nothing
     unfolding lookedUp
     looked-nothing h = rw (ok, lookup-leaf (entries v) a, s .missed h)
 
@@ -174,12 +174,12 @@ all-same f g (suc n) h = ap₂ _&&_ (all-same f g n (λ b p. h b (omega arith)))
 -- ---- an access, by what its first byte answers
 
 module _ (f : ℕ → Leaf) (p : ℕ → Bool) (a w : ℕ) where
-  pub routed-width : widthOk w ≡ false → routed f p a w ≡ Refused 23
+  pub routed-width : widthOk w ≡ false → routed f p a w ≡ refused 23
   unfolding routed
   routed-width e = rw e
 
   module _ (width : widthOk w ≡ true) where
-    pub routed-nowhere : f a ≡ nowhere → routed f p a w ≡ Refused 24
+    pub routed-nowhere : f a ≡ nowhere → routed f p a w ≡ refused 24
     unfolding routed
     routed-nowhere e = rw (width, e)
 
@@ -187,7 +187,7 @@ module _ (f : ℕ → Leaf) (p : ℕ → Bool) (a w : ℕ) where
       not-nowhere : isNowhere (f a) ≡ false
       not-nowhere = ap isNowhere first
 
-      pub routed-broken : allBelow (λ i. follows (f a) i (f (a + i))) w ≡ false → routed f p a w ≡ Refused 25
+      pub routed-broken : allBelow (λ i. follows (f a) i (f (a + i))) w ≡ false → routed f p a w ≡ refused 25
       unfolding routed
       routed-broken e = rw (width, not-nowhere, e)
 
@@ -210,21 +210,21 @@ module _ (f : ℕ → Leaf) (p : ℕ → Bool) (a w : ℕ) where
             go true e = all-same (λ i. isOpen p (f (a + i))) (λ i. p (o + i)) w (λ i h. byte-open i h ∙ ap (λ (t : Bool). not t || p (o + i)) e)
             go false e = all-of (λ i. isOpen p (f (a + i))) w (λ i h. byte-open i h ∙ ap (λ (t : Bool). not t || p (o + i)) e)
 
-        routed-whole : routed f p a w ≡ cond (not (eqb kind managed) || allBelow (λ i. p (o + i)) w) (target (leaf n kind base o)) (Refused 26)
+        routed-whole : routed f p a w ≡ cond (not (eqb kind managed) || allBelow (λ i. p (o + i)) w) (target (leaf n kind base o)) (refused 26)
         unfolding routed
-        routed-whole = rw (width, not-nowhere, whole, all-open) (ap (λ (x : Leaf). cond (not (eqb kind managed) || allBelow (λ i. p (o + i)) w) (target x) (Refused 26)) first)
+        routed-whole = rw (width, not-nowhere, whole, all-open) (ap (λ (x : Leaf). cond (not (eqb kind managed) || allBelow (λ i. p (o + i)) w) (target x) (refused 26)) first)
 
-        pub routed-port : kind ≡ mmio → routed f p a w ≡ Port base (record { 0 = o })
+        pub routed-port : kind ≡ mmio → routed f p a w ≡ toPort base o
         routed-port e =
             routed-whole ∙ rw (ne-eqb kind managed (λ q. let z : _≡_ {A = ℕ} 2 4 = sym e ∙ q in omega arith), eq-eqb kind mmio e)
 
-        pub routed-unplugged : kind ≡ managed → allBelow (λ i. p (o + i)) w ≡ false → routed f p a w ≡ Refused 26
+        pub routed-unplugged : kind ≡ managed → allBelow (λ i. p (o + i)) w ≡ false → routed f p a w ≡ refused 26
         routed-unplugged e g = routed-whole ∙ rw (eq-eqb kind managed e, g)
 
-        pub routed-memory : (kind ≡ mmio → ⊥) → (kind ≡ managed → allBelow (λ i. p (o + i)) w ≡ true) → routed f p a w ≡ Memory (base + o)
+        pub routed-memory : (kind ≡ mmio → ⊥) → (kind ≡ managed → allBelow (λ i. p (o + i)) w ≡ true) → routed f p a w ≡ toMemory (base + o)
         routed-memory ne g = routed-whole ∙ rw (ne-eqb kind mmio ne) (go (eqb kind managed) refl)
           where
-            go : (t : Bool) → eqb kind managed ≡ t → cond (not t || allBelow (λ i. p (o + i)) w) (Memory (base + o)) (Refused 26) ≡ Memory (base + o)
+            go : (t : Bool) → eqb kind managed ≡ t → cond (not t || allBelow (λ i. p (o + i)) w) (toMemory (base + o)) (refused 26) ≡ toMemory (base + o)
             go true e = rw (g (eqb-true kind managed e))
             go false e = refl
 
@@ -238,7 +238,7 @@ module _ (v : FlatView) (plugged : ℕ → Bool) (a w at : ℕ) (s : Spot v a at
   abbrev there : ℕ
   there = range .offset .0 + (a - range .first .0)
 
-  pub view-broken : not r ≡ true → routed (leafAt (entries v)) plugged a w ≡ Refused 25
+  pub view-broken : not r ≡ true → routed (leafAt (entries v)) plugged a w ≡ refused 25
   view-broken off =
       routed-broken (leafAt (entries v)) plugged a w width (range .region) (range .kind) (range .base) there (s .found h) (sym told ∙ not-true r off)
 
@@ -249,12 +249,12 @@ module _ (v : FlatView) (plugged : ℕ → Bool) (a w at : ℕ) (s : Spot v a at
     kinds : (i k₂ b₂ o₂ : ℕ) → leafAt (entries v) (a + i) ≡ leaf (range .region) k₂ b₂ o₂ → k₂ ≡ range .kind
     kinds i k₂ b₂ o₂ = same-kind v full ordered a (a + i) (range .region) (range .kind) (range .base) there k₂ b₂ o₂ (s .found h)
 
-    pub view-port : range .kind ≡ mmio → routed (leafAt (entries v)) plugged a w ≡ Port (range .base) (record { 0 = there })
+    pub view-port : range .kind ≡ mmio → routed (leafAt (entries v)) plugged a w ≡ toPort (range .base) there
     view-port = routed-port (leafAt (entries v)) plugged a w width (range .region) (range .kind) (range .base) there (s .found h) kinds whole
 
-    pub view-unplugged : range .kind ≡ managed → allBelow (λ i. plugged (there + i)) w ≡ false → routed (leafAt (entries v)) plugged a w ≡ Refused 26
+    pub view-unplugged : range .kind ≡ managed → allBelow (λ i. plugged (there + i)) w ≡ false → routed (leafAt (entries v)) plugged a w ≡ refused 26
     view-unplugged = routed-unplugged (leafAt (entries v)) plugged a w width (range .region) (range .kind) (range .base) there (s .found h) kinds whole
 
     pub view-memory : (range .kind ≡ mmio → ⊥) → (range .kind ≡ managed → allBelow (λ i. plugged (there + i)) w ≡ true)
-        → routed (leafAt (entries v)) plugged a w ≡ Memory (range .base + there)
+        → routed (leafAt (entries v)) plugged a w ≡ toMemory (range .base + there)
     view-memory = routed-memory (leafAt (entries v)) plugged a w width (range .region) (range .kind) (range .base) there (s .found h) kinds whole

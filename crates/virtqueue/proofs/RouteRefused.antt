@@ -6,21 +6,20 @@ use lib.Dec.{eqb}
 use Rattle.map_records.specs.Map.{mmio}
 use Rattle.device_words.specs.Table.{allBelow}
 use Rattle.guest_view.specs.Guest.{Leaf, nowhere, leaf}
-use Rattle.virtqueue.specs.Route.{widthOk, isNowhere, follows, isOpen, target, routed}
+use Rattle.virtqueue.specs.Route.{refused, toMemory, toPort, widthOk, isNowhere, follows, isOpen, target, routed}
 use Rattle.virtqueue.specs.RouteCauses.{routeRefusedBy, cause23, cause24, cause25, cause26}
-use Rattle.virtqueue.specs.declared.route.RouteAnswer.the-variants as route
 
 module _ (answers : ℕ → Leaf) (plugged : ℕ → Bool) (a w : ℕ) where
   abbrev asked : ℕ → Leaf → Bool → Bool → Bool → Bool
   asked k x ok same free =
-      routeRefusedBy k (cond ok (cond (isNowhere x) (route.Refused 24) (cond same (cond free (target x) (route.Refused 26)) (route.Refused 25))) (route.Refused 23))
+      routeRefusedBy k (cond ok (cond (isNowhere x) (refused 24) (cond same (cond free (target x) (refused 26)) (refused 25))) (refused 23))
 
   -- 23: 'access width not 1, 2, 4, 8'
   pub refused-23 : routeRefusedBy 23 (routed answers plugged a w) ≡ cause23 answers plugged a w
   unfolding routed
   refused-23 = go (answers a) (widthOk w) (allBelow (λ i. follows (answers a) i (answers (a + i))) w) (allBelow (λ i. isOpen plugged (answers (a + i))) w)
     where
-      routed-on : (b : Bool) (p o : ℕ) → routeRefusedBy 23 (cond b (route.Port p (record { 0 = o })) (route.Memory (p + o))) ≡ false
+      routed-on : (b : Bool) (p o : ℕ) → routeRefusedBy 23 (cond b (toPort p o) (toMemory (p + o))) ≡ false
       routed-on true p o = refl
       routed-on false p o = refl
 
@@ -36,7 +35,7 @@ module _ (answers : ℕ → Leaf) (plugged : ℕ → Bool) (a w : ℕ) where
   unfolding routed
   refused-24 = go (answers a) (widthOk w) (allBelow (λ i. follows (answers a) i (answers (a + i))) w) (allBelow (λ i. isOpen plugged (answers (a + i))) w)
     where
-      routed-on : (b : Bool) (p o : ℕ) → routeRefusedBy 24 (cond b (route.Port p (record { 0 = o })) (route.Memory (p + o))) ≡ false
+      routed-on : (b : Bool) (p o : ℕ) → routeRefusedBy 24 (cond b (toPort p o) (toMemory (p + o))) ≡ false
       routed-on true p o = refl
       routed-on false p o = refl
 
@@ -52,7 +51,7 @@ module _ (answers : ℕ → Leaf) (plugged : ℕ → Bool) (a w : ℕ) where
   unfolding routed
   refused-25 = go (answers a) (widthOk w) (allBelow (λ i. follows (answers a) i (answers (a + i))) w) (allBelow (λ i. isOpen plugged (answers (a + i))) w)
     where
-      routed-on : (b : Bool) (p o : ℕ) → routeRefusedBy 25 (cond b (route.Port p (record { 0 = o })) (route.Memory (p + o))) ≡ false
+      routed-on : (b : Bool) (p o : ℕ) → routeRefusedBy 25 (cond b (toPort p o) (toMemory (p + o))) ≡ false
       routed-on true p o = refl
       routed-on false p o = refl
 
@@ -68,7 +67,7 @@ module _ (answers : ℕ → Leaf) (plugged : ℕ → Bool) (a w : ℕ) where
   unfolding routed
   refused-26 = go (answers a) (widthOk w) (allBelow (λ i. follows (answers a) i (answers (a + i))) w) (allBelow (λ i. isOpen plugged (answers (a + i))) w)
     where
-      routed-on : (b : Bool) (p o : ℕ) → routeRefusedBy 26 (cond b (route.Port p (record { 0 = o })) (route.Memory (p + o))) ≡ false
+      routed-on : (b : Bool) (p o : ℕ) → routeRefusedBy 26 (cond b (toPort p o) (toMemory (p + o))) ≡ false
       routed-on true p o = refl
       routed-on false p o = refl
 

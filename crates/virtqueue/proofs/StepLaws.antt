@@ -8,7 +8,7 @@ use native.Mathlib.Nat.{add-zero, mod-eq-of-lt}
 use lib.Dec.{eqb, ltb}
 use lib.ListN.{length, getD, set, replicate}
 use lib.Seq.{sets}
-use borrow.Author.Tests.{ltb-true}
+use borrow.Author.Tests.{eq-eqb}
 use Rattle.region_map.proofs.Bools.{and-fst, and-snd}
 use Rattle.map_records.proofs.StoreLaws.{sets-append, over}
 use Rattle.map_records.specs.View.{entries}
@@ -20,24 +20,21 @@ use Rattle.device_words.specs.Device.{MemoryDevice}
 use Rattle.guest_view.specs.Guest.{leafAt, Guest, allReach, addresses, numberAt, written, byView}
 use Rattle.virtqueue.specs.Queue.{queueOk, ringEntry, usedEntry, usedIdx, nextIndex, stoppedBy, advanced}
 use Rattle.virtqueue.specs.Chain.{Chain, writable, firstBytes, shapeOf}
-use Rattle.virtqueue.specs.Step.{noticesOf, headOf, chainOf, usedReached, Offer, stop, idle, ready, offerChain, offerHead, offerNotices, offered, requestBytes, responsePlaces, usedPlaces, usedBytes, carrying, servedMemory, steppedBy, recordsOk, stepped}
+use Rattle.virtqueue.specs.Step.{refused, idle, served, Way, halted, quiet, along, wayOf, chainOf, usedReached, Offer, stop, nothing, ready, offerChain, offerOf, offered, requestBytes, responsePlaces, usedPlaces, usedBytes, carrying, servedMemory, steppedBy, recordsOk, stepped}
 use Rattle.guest_view.specs.View.{viewOk}
 use Rattle.guest_view.specs.Contracts.{memoryLeaf, Ordered, Backed, InMemory, Within, placeIn}
 use Rattle.virtqueue.specs.Contracts.{UsedIn, Takes}
 use Rattle.virtqueue.specs.declared.queue.SplitQueue.{SplitQueue}
-use Rattle.virtqueue.specs.declared.take.AvailableNotices.{AvailableNotices}
-use Rattle.virtqueue.specs.declared.take.AvailableNotices.the-variants as notices
-use Rattle.virtqueue.specs.declared.take.HeadEntry.{HeadEntry}
-use Rattle.virtqueue.specs.declared.take.HeadEntry.the-variants as head
 use Rattle.virtqueue.specs.declared.take.TakenOffer.{TakenOffer}
 use Rattle.virtqueue.specs.declared.take.TakenOffer.the-variants as offer
 use Rattle.virtqueue.specs.declared.step.StepOutcome.the-variants.{Refused, Idle, Served}
 use Rattle.virtqueue.specs.declared.step.Moved.{Moved}
 use Rattle.device_words.specs.Words.{deviceOf, deviceWords}
-use Rattle.virtqueue.specs.Moved.{moved, laid, Leaves, LeavesIn}
+use Rattle.virtqueue.specs.Does.{laid, DoesIn}
 use Rattle.virtqueue.proofs.DeviceLaws.{words-of, laid-back, full}
 use Rattle.guest_view.proofs.GuestLaws.{all-memory, reach-memory, place-below}
 use Rattle.virtqueue.proofs.QueueLaws.{queue-facts}
+use Rattle.virtqueue.proofs.WayLaws.{way-along}
 use Rattle.virtqueue.proofs.ReachedLaws.{Every, every-append, every-weaken, Reaches, every-byte, every-writable, chain-judged}
 use Rattle.guest_view.proofs.RuleLaws.{view-ordered, view-backed}
 
@@ -104,47 +101,26 @@ pub record Readied (g : Guest) (memory : List ℕ) (q : SplitQueue) (h : ℕ) (c
   pub low : h < q .size
   pub chain : c ≡ chainOf g memory q h
 
-head-low : (g : Guest) (memory : List ℕ) (q : SplitQueue) (h : ℕ) → headOf g memory q ≡ head.At h → h < q .size
-unfolding headOf
-head-low g memory q h e = go (allReach (g .reach) (ringEntry q) 2) (ltb n (q .size)) refl e
-  where
-    n : ℕ
-    n = numberAt (g .place) memory (ringEntry q) 2
-
-    go : (x y : Bool) → ltb n (q .size) ≡ y → cond x (cond y (head.At n) (head.Stop 19)) (head.Stop 17) ≡ head.At h → h < q .size
-    go true true f e = let z : n ≡ h = cc in rw z at (ltb-true n (q .size) f)
-    go true false f e = absurd (let z : _≡_ {A = ℕ} 0 1 = cc in omega arith)
-    go false y f e = absurd (let z : _≡_ {A = ℕ} 0 1 = cc in omega arith)
-
 module _ (g : Guest) (memory : List ℕ) (q : SplitQueue) (h : ℕ) (notify : Bool) (c : Chain) where
-  chain-ready : (j : ℕ) (n : Bool) → j < q .size → offerChain g q j n (chainOf g memory q j) ≡ ready h notify c → Readied g memory q h c
+  chain-ready : (j : ℕ) (n : Bool) (b : Chain) → j < q .size → b ≡ chainOf g memory q j → offerChain g q j n b ≡ ready h notify c → Readied g memory q h c
   unfolding offerChain
-  chain-ready j n l e = go (eqb (shapeOf (chainOf g memory q j)) 0) (usedReached g q) refl e
+  chain-ready j n b l k e = go (eqb (shapeOf b) 0) (usedReached g q) refl e
     where
-      go : (x y : Bool) → usedReached g q ≡ y → cond x (cond y (ready j n (chainOf g memory q j)) (stop 17)) (stop (shapeOf (chainOf g memory q j))) ≡ ready h notify c → Readied g memory q h c
+      go : (x y : Bool) → usedReached g q ≡ y → cond x (cond y (ready j n b) (stop 17)) (stop (shapeOf b)) ≡ ready h notify c → Readied g memory q h c
       go true true f e =
           let i : j ≡ h = cc in
-          let k : chainOf g memory q j ≡ c = cc in
-          record { used = f; low = rw i at l; chain = sym k ∙ ap (chainOf g memory q) i }
+          let r : b ≡ c = cc in
+          record { used = f; low = rw i at l; chain = sym r ∙ k ∙ ap (chainOf g memory q) i }
       go true false f e = absurd (let z : _≡_ {A = ℕ} 0 1 = cc in omega arith)
       go false y f e = absurd (let z : _≡_ {A = ℕ} 0 1 = cc in omega arith)
 
-  head-ready : (n : Bool) (x : HeadEntry) → headOf g memory q ≡ x → offerHead g memory q n x ≡ ready h notify c → Readied g memory q h c
-  head-ready n (head.Stop k) f e = absurd (let z : _≡_ {A = ℕ} 0 1 = cc in omega arith)
-  head-ready n (head.At j) f e = chain-ready j n (head-low g memory q j f) e
-
-  notices-ready : (x : AvailableNotices) → offerNotices g memory q x ≡ ready h notify c → Readied g memory q h c
-  notices-ready (notices.Stop k) e = absurd (let z : _≡_ {A = ℕ} 0 1 = cc in omega arith)
-  notices-ready notices.Idle e = absurd (let z : _≡_ {A = ℕ} 0 1 = cc in omega arith)
-  notices-ready (notices.Offered n) e = head-ready n (headOf g memory q) refl e
+  way-ready : (w : Way) → wayOf g memory q ≡ w → offerOf g q w ≡ ready h notify c → Readied g memory q h c
+  way-ready (halted k) f e = absurd (let z : _≡_ {A = ℕ} 0 1 = cc in omega arith)
+  way-ready quiet f e = absurd (let z : _≡_ {A = ℕ} 0 1 = cc in omega arith)
+  way-ready (along j n b) f e = let k = way-along g memory q j n b f in chain-ready j n b (k .low) (k .chain) e
 
   pub offer-ready : offered g memory q ≡ ready h notify c → Readied g memory q h c
-  unfolding offered
-  offer-ready e = go (eqb (q .stop) 0) e
-    where
-      go : (x : Bool) → cond x (offerNotices g memory q (noticesOf g memory q)) (stop (q .stop)) ≡ ready h notify c → Readied g memory q h c
-      go true e = notices-ready (noticesOf g memory q) e
-      go false e = absurd (let z : _≡_ {A = ℕ} 0 1 = cc in omega arith)
+  offer-ready e = way-ready (wayOf g memory q) refl e
 
 -- its used ring and its response's places lie in the memory
 pub used-in : (v : FlatView) (d : MemoryDevice) (q : SplitQueue) → usedReached (byView v d) q ≡ true → UsedIn v q
@@ -171,12 +147,12 @@ ready-within v d memory q h c n b e =
 module _ (g : Guest) (memory : List ℕ) (request places : List ℕ) where
   pub taken-stop : (x : Offer) (t : TakenOffer) (k : ℕ) → Takes g memory x t request places → t ≡ offer.Stop k → x ≡ stop k
   taken-stop (stop j) t k h e = ap stop (let z : j ≡ k = cc in z)
-  taken-stop idle t k h e = absurd (let z : _≡_ {A = ℕ} 0 1 = cc in omega arith)
+  taken-stop nothing t k h e = absurd (let z : _≡_ {A = ℕ} 0 1 = cc in omega arith)
   taken-stop (ready j b c) t k h e = absurd (let f = h .0 in let z : _≡_ {A = ℕ} 0 1 = cc in omega arith)
 
-  pub taken-idle : (x : Offer) (t : TakenOffer) → Takes g memory x t request places → t ≡ offer.Idle → x ≡ idle
+  pub taken-idle : (x : Offer) (t : TakenOffer) → Takes g memory x t request places → t ≡ offer.Idle → x ≡ nothing
   taken-idle (stop j) t h e = absurd (let z : _≡_ {A = ℕ} 0 1 = cc in omega arith)
-  taken-idle idle t h e = refl
+  taken-idle nothing t h e = refl
   taken-idle (ready j b c) t h e = absurd (let f = h .0 in let z : _≡_ {A = ℕ} 0 1 = cc in omega arith)
 
   pub record TakenReady (x : Offer) (h : ℕ) (notify : Bool) : Type 0 where
@@ -187,7 +163,7 @@ module _ (g : Guest) (memory : List ℕ) (request places : List ℕ) where
 
   pub taken-ready : (x : Offer) (t : TakenOffer) (h : ℕ) (notify : Bool) → Takes g memory x t request places → t ≡ offer.Ready h notify → TakenReady x h notify
   taken-ready (stop j) t h notify w e = absurd (let z : _≡_ {A = ℕ} 0 1 = cc in omega arith)
-  taken-ready idle t h notify w e = absurd (let z : _≡_ {A = ℕ} 0 1 = cc in omega arith)
+  taken-ready nothing t h notify w e = absurd (let z : _≡_ {A = ℕ} 0 1 = cc in omega arith)
   taken-ready (ready j b c) t h notify w e =
       let f = w .0 in
       let p : j ≡ h = cc in
@@ -196,7 +172,7 @@ module _ (g : Guest) (memory : List ℕ) (request places : List ℕ) where
 
 -- What a step on records that were judged leaves: the answer, the device's words and memory.
 abbrev pub Left : FlatView → List ℕ → SplitQueue → List ℕ → Moved → List ℕ → List ℕ → Type 0
-Left v w q memory r device m = Leaves (steppedBy (byView v (deviceOf w)) (deviceOf w) q memory) r device m
+Left v w q memory r device m = DoesIn w (steppedBy (byView v (deviceOf w)) (deviceOf w) q memory) r device m
 
 module _ (v : FlatView) (w : List ℕ) (l : length w ≡ 37) (q : SplitQueue) (memory : List ℕ) (t : TakenOffer) (request places : List ℕ)
     (took : Takes (byView v (deviceOf w)) memory (offered (byView v (deviceOf w)) memory q) t request places) where
@@ -206,12 +182,12 @@ module _ (v : FlatView) (w : List ℕ) (l : length w ≡ 37) (q : SplitQueue) (m
   pub judged-stop : (k : ℕ) (p : SplitQueue) → t ≡ offer.Stop k → p ≡ stoppedBy q k → Left v w q memory (record { outcome = Refused k; queue = p }) w memory
   unfolding steppedBy
   judged-stop k p e f =
-      rw (f, taken-stop (byView v d) memory request places (offered (byView v d) memory q) t k took e) (refl, sym (words-of w l), refl)
+      rw (f, taken-stop (byView v d) memory request places (offered (byView v d) memory q) t k took e) (refl, refl, sym (laid-back w), refl)
 
   pub judged-idle : t ≡ offer.Idle → Left v w q memory (record { outcome = Idle; queue = q }) w memory
   unfolding steppedBy
   judged-idle e =
-      rw (taken-idle (byView v d) memory request places (offered (byView v d) memory q) t took e) (refl, sym (words-of w l), refl)
+      rw (taken-idle (byView v d) memory request places (offered (byView v d) memory q) t took e) (refl, refl, sym (laid-back w), refl)
 
   module _ (h : ℕ) (notify : Bool) (e : t ≡ offer.Ready h notify) where
     judged : TakenReady (byView v d) memory request places (offered (byView v d) memory q) h notify
@@ -234,7 +210,7 @@ module _ (v : FlatView) (w : List ℕ) (l : length w ≡ 37) (q : SplitQueue) (m
         → Left v w q memory (record { outcome = Served notify; queue = p }) device m
     unfolding steppedBy
     judged-ready p used bytes device m f x y z u =
-        rw (judged .is, ← judged .«its-request», ← judged .«its-places», f, z, u, x, y) (refl, refl, refl)
+        rw (judged .is, ← judged .«its-request», ← judged .«its-places», eq-eqb (length w) 37 l, f, z, u, x, y) (refl, refl, refl, refl)
 
 -- 27's rules, and the step on records that keep them or not
 pub record RecordFacts (v : FlatView) (d : MemoryDevice) (q : SplitQueue) (n : ℕ) : Type 0 where
@@ -257,14 +233,14 @@ records-facts v d q n h l =
 
 -- a step on words that keep 27's rules or not
 abbrev pub LeftAny : FlatView → List ℕ → SplitQueue → List ℕ → Moved → List ℕ → List ℕ → Type 0
-LeftAny v w q memory r device m = LeavesIn w (stepped v (deviceOf w) q memory) r device m
+LeftAny v w q memory r device m = DoesIn w (stepped v (deviceOf w) q memory) r device m
 
 module _ (v : FlatView) (w : List ℕ) (q : SplitQueue) (memory : List ℕ) where
   pub step-judged : recordsOk v (deviceOf w) q (length memory) ≡ true → (r : Moved) (device m : List ℕ)
       → Left v w q memory r device m → LeftAny v w q memory r device m
   unfolding stepped
-  step-judged h r device m l = rw (h, full v w q (length memory) h) l
+  step-judged h r device m l = rw h l
 
   pub step-refused : recordsOk v (deviceOf w) q (length memory) ≡ false → LeftAny v w q memory (record { outcome = Refused 27; queue = q }) w memory
   unfolding stepped
-  step-refused h = rw h (refl, sym (laid-back w), refl)
+  step-refused h = rw h (refl, refl, sym (laid-back w), refl)

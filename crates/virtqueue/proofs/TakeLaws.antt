@@ -8,12 +8,12 @@ use native.Mathlib.Nat.{mod-lt}
 use lib.Dec.{eqb, ltb}
 use lib.ListN.{length, take, length-take, length-map}
 use lib.Seq.{take-all}
-use borrow.Author.Tests.{lt-ltb, le-ltb, eq-eqb, ne-eqb, ltb-true, ltb-false, eqb-true, eqb-false}
+use borrow.Author.Tests.{lt-ltb, le-ltb, lt-leb, le-leb, eq-eqb, ne-eqb, ltb-true, ltb-false, eqb-true, eqb-false}
 use Rattle.guest_view.specs.Guest.{Guest, allReach, byteAt, numberAt}
 use Rattle.virtqueue.specs.Queue.{ringEntry, usedEntry, distance}
 use Rattle.virtqueue.specs.Chain.{Chain, endOf, readable, writable, total, firstBytes, shapeOf}
-use Rattle.virtqueue.specs.Step.{notifies, noticesOf, headOf, usedReached, stop, ready, offerChain, offerHead, offerNotices, offered, requestBytes, responsePlaces}
-use Rattle.virtqueue.specs.Contracts.{gotOf, Gathers, shapeFrom}
+use Rattle.virtqueue.specs.Step.{wayOf, notifies, usedReached, stop, ready, offerChain, offerOf, offered, requestBytes, responsePlaces}
+use Rattle.virtqueue.specs.Contracts.{gotOf, Gathers, shapeFrom, noticesOf, headOf, headWay, noticesWay}
 use Rattle.virtqueue.specs.declared.chain.Gathered.{Gathered}
 use Rattle.virtqueue.specs.declared.queue.SplitQueue.{SplitQueue}
 use Rattle.virtqueue.specs.declared.take.AvailableNotices.{AvailableNotices}
@@ -22,6 +22,7 @@ use Rattle.virtqueue.specs.declared.take.HeadEntry.{HeadEntry}
 use Rattle.virtqueue.specs.declared.take.HeadEntry.the-variants as head
 use Rattle.virtqueue.proofs.ChainLaws.{length-first}
 use Rattle.virtqueue.proofs.QueueLaws.{QueueFacts}
+use Rattle.virtqueue.proofs.WayLaws.{way-stopped, way-notices}
 
 -- where a queue's entries end
 module _ (q : SplitQueue) (f : QueueFacts q) where
@@ -49,12 +50,12 @@ module _ (g : Guest) (memory : List ℕ) (q : SplitQueue) where
     module _ (n : idx ≡ q .«next_available» → ⊥) where
       pub notices-far : q .size < distance idx (q .«next_available») → notices.Stop 18 ≡ noticesOf g memory q
       unfolding noticesOf
-      notices-far l = rw (h, ← e, ne-eqb idx (q .«next_available») n, lt-ltb (q .size) (distance idx (q .«next_available»)) l)
+      notices-far l = rw (h, ← e, ne-eqb idx (q .«next_available») n, lt-leb (distance idx (q .«next_available»)) (q .size) l)
 
       pub notices-offered : (flags : ℕ) → flags ≡ numberAt (g .place) memory (q .available .0) 2 → distance idx (q .«next_available») ≤ q .size
           → notices.Offered (notifies flags) ≡ noticesOf g memory q
       unfolding noticesOf
-      notices-offered flags k l = rw (h, ← e, ← k, ne-eqb idx (q .«next_available») n, le-ltb (q .size) (distance idx (q .«next_available»)) l)
+      notices-offered flags k l = rw (h, ← e, ← k, ne-eqb idx (q .«next_available») n, le-leb (distance idx (q .«next_available»)) (q .size) l)
 
   -- and its entry
   pub head-out : allReach (g .reach) (ringEntry q) 2 ≡ false → head.Stop 17 ≡ headOf g memory q
@@ -148,13 +149,11 @@ module _ (g : Guest) (q : SplitQueue) (h : ℕ) (notify : Bool) (c : Chain) wher
 
 module _ (g : Guest) (memory : List ℕ) (q : SplitQueue) where
   pub offered-stopped : (q .stop ≡ 0 → ⊥) → offered g memory q ≡ stop (q .stop)
-  unfolding offered
-  offered-stopped n = rw (ne-eqb (q .stop) 0 n)
+  offered-stopped n = ap (offerOf g q) (way-stopped g memory q n)
 
-  pub offered-notices : (n : AvailableNotices) → q .stop ≡ 0 → noticesOf g memory q ≡ n → offered g memory q ≡ offerNotices g memory q n
-  unfolding offered
-  offered-notices n e f = rw (eq-eqb (q .stop) 0 e, f)
+  pub offered-notices : (n : AvailableNotices) → q .stop ≡ 0 → noticesOf g memory q ≡ n → offered g memory q ≡ offerOf g q (noticesWay g memory q n)
+  offered-notices n e f = ap (offerOf g q) (way-notices g memory q e ∙ ap (noticesWay g memory q) f)
 
   pub offered-head : (notify : Bool) (x : HeadEntry) → q .stop ≡ 0 → noticesOf g memory q ≡ notices.Offered notify → headOf g memory q ≡ x
-      → offered g memory q ≡ offerHead g memory q notify x
-  offered-head notify x e f i = offered-notices (notices.Offered notify) e f ∙ ap (offerHead g memory q notify) i
+      → offered g memory q ≡ offerOf g q (headWay g memory q notify x)
+  offered-head notify x e f i = offered-notices (notices.Offered notify) e f ∙ ap (λ (y : HeadEntry). offerOf g q (headWay g memory q notify y)) i

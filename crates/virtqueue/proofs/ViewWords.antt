@@ -15,8 +15,7 @@ use Rattle.guest_view.specs.Guest.{leafAt, placeOf}
 use Rattle.map_records.specs.View.{offsetIn}
 use Rattle.guest_view.specs.Contracts.{Judged, Spot}
 use Rattle.guest_view.proofs.ReadLaws.{words-full}
-use Rattle.virtqueue.specs.Route.{widthOk, routed}
-use Rattle.virtqueue.specs.declared.route.RouteAnswer.the-variants.{Refused, Memory, Port}
+use Rattle.virtqueue.specs.Route.{refused, toMemory, toPort, widthOk, routed}
 use Rattle.virtqueue.proofs.RouteLaws.{goesOn, byte-at, byte-in, bytes-in, view-broken, view-port, view-unplugged, view-memory}
 
 module _ {words : List ℕ} (j : Judged words) {a at : ℕ} (s : Spot (viewOf words) a at) (h : at < viewOf words .count) where
@@ -39,7 +38,7 @@ module _ {words : List ℕ} (j : Judged words) {a at : ℕ} (s : Spot (viewOf wo
 
   -- the answer, from whether each byte goes on from the first
   module _ (plugged : ℕ → Bool) (w : ℕ) (width : widthOk w ≡ true) (r : Bool) (told : r ≡ allBelow (goesOn (viewOf words) a) w) where
-    pub read-broken : not r ≡ true → Refused 25 ≡ routed (leafAt (entries (viewOf words))) plugged a w
+    pub read-broken : not r ≡ true → refused 25 ≡ routed (leafAt (entries (viewOf words))) plugged a w
     read-broken off = sym (view-broken (viewOf words) plugged a w at s h (words-full j) (j .ordered) width r told off)
 
     module _ (on : not r ≡ false) {x : FlatRange} (e : x ≡ rangeOf (viewOf words) at) {o : ℕ} (f : o ≡ offsetIn x a) where
@@ -52,17 +51,17 @@ module _ {words : List ℕ} (j : Judged words) {a at : ℕ} (s : Spot (viewOf wo
       base-is : x .base ≡ rangeOf (viewOf words) at .base
       base-is = ap (λ (y : FlatRange). y .base) e
 
-      pub read-port : x .kind ≡ mmio → Port (x .base) (record { 0 = o }) ≡ routed (leafAt (entries (viewOf words))) plugged a w
+      pub read-port : x .kind ≡ mmio → toPort (x .base) o ≡ routed (leafAt (entries (viewOf words))) plugged a w
       read-port k =
           rw (here, base-is) (sym (view-port (viewOf words) plugged a w at s h (words-full j) (j .ordered) width r told on (sym kind-is ∙ k)))
 
-      pub read-unplugged : x .kind ≡ managed → allBelow (λ i. plugged (o + i)) w ≡ false → Refused 26 ≡ routed (leafAt (entries (viewOf words))) plugged a w
+      pub read-unplugged : x .kind ≡ managed → allBelow (λ i. plugged (o + i)) w ≡ false → refused 26 ≡ routed (leafAt (entries (viewOf words))) plugged a w
       read-unplugged k p =
           sym (view-unplugged (viewOf words) plugged a w at s h (words-full j) (j .ordered) width r told on (sym kind-is ∙ k)
           (subst (λ (n : ℕ). allBelow (λ i. plugged (n + i)) w ≡ false) here p))
 
       pub read-memory : (p : ℕ) → p ≡ placeOf (x .base) o → (x .kind ≡ mmio → ⊥) → (x .kind ≡ managed → allBelow (λ i. plugged (o + i)) w ≡ true)
-          → Memory p ≡ routed (leafAt (entries (viewOf words))) plugged a w
+          → toMemory p ≡ routed (leafAt (entries (viewOf words))) plugged a w
       read-memory p g ne q =
           rw (g, here, base-is)
           (sym (view-memory (viewOf words) plugged a w at s h (words-full j) (j .ordered) width r told on (λ k. ne (kind-is ∙ k))

@@ -12,7 +12,7 @@ use Rattle.device_words.specs.declared.request.Response.{Response}
 use Rattle.device_words.specs.declared.request.Response.the-variants.{Ack, Nack, Busy, Error, Plugged, Mixed}
 use Rattle.guest_view.specs.Guest.{Guest, allReach, numberAt}
 use Rattle.virtqueue.specs.Queue.{distance}
-use Rattle.virtqueue.specs.Step.{noticesOf}
+use Rattle.virtqueue.specs.Contracts.{noticesOf}
 use Rattle.virtqueue.specs.declared.queue.SplitQueue.{SplitQueue}
 use Rattle.virtqueue.specs.declared.take.AvailableNotices.{AvailableNotices}
 use Rattle.virtqueue.specs.declared.take.AvailableNotices.the-variants as notices

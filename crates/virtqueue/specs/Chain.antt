@@ -5,8 +5,6 @@ use Prim.Native.Nat.{ℕ, zero, suc, _+_, _-_, _*_, _/_, _%_, min}
 use lib.Dec.{eqb, ltb}
 use Rattle.guest_view.specs.Guest.{Guest, allReach, addresses, numberAt}
 use Rattle.virtqueue.specs.declared.chain.Descriptor.{Descriptor}
-use Rattle.virtqueue.specs.declared.chain.Fetched.{Fetched}
-use Rattle.virtqueue.specs.declared.chain.Fetched.the-variants.{Out, Here}
 
 -- 'NEXT is 1, WRITE 2, INDIRECT 4'
 abbrev pub hasNext : Descriptor → Bool
@@ -22,8 +20,13 @@ isIndirect d = eqb (d .flags / 4 % 2) 1
 pub data Chain : Type 0 where
   whole : Chain
   ended : ℕ → Chain
-  refused : Descriptor → Chain
+  rejected : Descriptor → Chain
   element : Descriptor → Chain → Chain
+
+-- what stands at an entry of a table: a descriptor, or bytes that are not all reachable
+pub data Entry : Type 0 where
+  out : Entry
+  here : Descriptor → Entry
 
 -- 20: 'INDIRECT set; a readable element after a writable one'
 abbrev pub misplaced : Bool → Descriptor → Bool
@@ -43,14 +46,14 @@ goOn rest (onward j) = rest j
 goOn rest astray = ended 20
 
 -- The descriptor at entry i, `late` saying whether a writable element came before, `next` which entry follows and `rest` the chain from there on: 'per descriptor 17, INDIRECT, readable late, 21, next or length'.
-unfoldable pub visit : (Descriptor → Bool) → (Descriptor → ℕ → Following) → ℕ → Bool → (ℕ → Bool → Chain) → Fetched → Chain
-visit reached next i late rest Out = ended 17
-visit reached next i late rest (Here d) =
+unfoldable pub visit : (Descriptor → Bool) → (Descriptor → ℕ → Following) → ℕ → Bool → (ℕ → Bool → Chain) → Entry → Chain
+visit reached next i late rest out = ended 17
+visit reached next i late rest (here d) =
     cond (misplaced late d) (ended 20)
-    (cond (reached d) (element d (cond (hasNext d) (goOn (λ j. rest j (isWritable d)) (next d i)) whole)) (refused d))
+    (cond (reached d) (element d (cond (hasNext d) (goOn (λ j. rest j (isWritable d)) (next d i)) whole)) (rejected d))
 
 -- The chain from entry i on, of at most `left` more descriptors. With none left, NEXT was 'set in the descriptor that is the queue-size-th of the chain'. Where descriptors are read, which are reached, which entry follows and how many there may be are parameters: ring, indirect table and packed ring share it.
-unfoldable pub follow : (ℕ → Fetched) → (Descriptor → Bool) → (Descriptor → ℕ → Following) → ℕ → ℕ → Bool → Chain
+unfoldable pub follow : (ℕ → Entry) → (Descriptor → Bool) → (Descriptor → ℕ → Following) → ℕ → ℕ → Bool → Chain
 follow fetch reached next zero i late = ended 20
 follow fetch reached next (suc left) i late = visit reached next i late (follow fetch reached next left) (fetch i)
 
@@ -58,20 +61,20 @@ follow fetch reached next (suc left) i late = visit reached next i late (follow 
 unfoldable pub endOf : Chain → ℕ
 endOf whole = 0
 endOf (ended k) = k
-endOf (refused d) = 21
+endOf (rejected d) = 21
 endOf (element d c) = endOf c
 
 -- its readable and its writable elements, as far as they are accepted
 unfoldable pub readable : Chain → List Descriptor
 readable whole = []
 readable (ended k) = []
-readable (refused d) = []
+readable (rejected d) = []
 readable (element d c) = cond (isWritable d) (readable c) (d ∷ readable c)
 
 unfoldable pub writable : Chain → List Descriptor
 writable whole = []
 writable (ended k) = []
-writable (refused d) = []
+writable (rejected d) = []
 writable (element d c) = cond (isWritable d) (d ∷ writable c) (writable c)
 
 -- the bytes of elements, one element after the other: how many, and the addresses of the first k
@@ -98,9 +101,9 @@ descriptorAt place memory a =
     }
 
 -- entry i of a table in guest memory, where its bytes are reachable
-unfoldable pub fetched : Guest → List ℕ → ℕ → ℕ → Fetched
+unfoldable pub fetched : Guest → List ℕ → ℕ → ℕ → Entry
 fetched g memory table i =
-    cond (allReach (g .reach) (table + 16 * i) 16) (Here (descriptorAt (g .place) memory (table + 16 * i))) Out
+    cond (allReach (g .reach) (table + 16 * i) 16) (here (descriptorAt (g .place) memory (table + 16 * i))) out
 
 -- 'An element of length 0 has no bytes and any address; no element wraps'
 abbrev pub reached : Guest → Descriptor → Bool

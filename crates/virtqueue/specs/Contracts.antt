@@ -4,24 +4,85 @@ use mathlib.Core.Bool.{Bool, true, false, cond, _||_}
 use mathlib.Core.List.{List, map}
 use lib.Seq.{sets}
 use Prim.Native.Nat.{ℕ, _+_, _-_, _^_, _≤_, _<_, min}
-use lib.Dec.{eqb, ltb}
+use lib.Dec.{eqb, leb, ltb}
 use lib.ListN.{length, take}
+use Rattle.map_records.specs.View.{entries}
 use Rattle.map_records.specs.declared.view.FlatView.{FlatView}
 use Rattle.map_records.specs.Words.{viewOf}
-use Rattle.guest_view.specs.Guest.{Guest, byteAt, addresses, viewGuest}
-use Rattle.virtqueue.specs.Queue.{usedEntry, usedIdx}
-use Rattle.virtqueue.specs.Chain.{Chain, endOf, isWritable, misplaced}
-use Rattle.virtqueue.specs.Step.{Offer, stop, idle, ready, requestBytes, responsePlaces}
+use Rattle.device_words.specs.Table.{allBelow}
+use Rattle.device_words.specs.Device.{MemoryDevice, pluggedIn}
+use Rattle.device_words.specs.Words.{deviceOf}
+use Rattle.guest_view.specs.Guest.{Guest, allReach, byteAt, addresses, leafAt, viewGuest, byView}
+use Rattle.virtqueue.specs.Queue.{ringEntry, usedEntry, usedIdx}
+use Rattle.virtqueue.specs.Chain.{Chain, Entry, out, here, endOf, isWritable, misplaced, reached, chainAt}
+use Rattle.virtqueue.specs.Route.{Routed, follows, routed}
+use Rattle.virtqueue.specs.Step.{Way, halted, quiet, along, Offer, stop, nothing, ready, idx, flags, entry, offers, notifies, chainOf, requestBytes, responsePlaces, usedPlaces, offerChain, offered, steppedBy, Effect}
 use Rattle.virtqueue.specs.declared.chain.Gathered.{Gathered}
 use Rattle.virtqueue.specs.declared.chain.Descriptor.{Descriptor}
+use Rattle.virtqueue.specs.declared.chain.Fetched.{Fetched}
+use Rattle.virtqueue.specs.declared.chain.Fetched.the-variants as fetched
 use Rattle.virtqueue.specs.declared.queue.SplitQueue.{SplitQueue}
+use Rattle.virtqueue.specs.declared.take.AvailableNotices.{AvailableNotices}
+use Rattle.virtqueue.specs.declared.take.AvailableNotices.the-variants as notices
+use Rattle.virtqueue.specs.declared.take.HeadEntry.{HeadEntry}
+use Rattle.virtqueue.specs.declared.take.HeadEntry.the-variants as head
 use Rattle.virtqueue.specs.declared.take.TakenOffer.{TakenOffer}
 use Rattle.virtqueue.specs.declared.take.TakenOffer.the-variants as offer
-use Rattle.guest_view.specs.Contracts.{InMemory}
+use Rattle.guest_view.specs.Contracts.{Judged, Backed, InMemory, placeIn}
 
--- the guest through a view's words, with a device of a block size and a plug table
+-- the guest through a view's words, with a device of a block size and a plug table; through the words of both
 abbrev pub guestIn : List ℕ → ℕ → List ℕ → Guest
 guestIn view block plugged = viewGuest (viewOf view) block plugged
+
+-- what is lent to the reading half: a judged view over this memory, and the block size and the plug table of a device
+pub record Lent (view mem : List ℕ) (block : ℕ) (plugged : List ℕ) : Type 0 where
+  pub judged : Judged view
+  pub backed : Backed (viewOf view) (length mem)
+  pub some : 0 < block
+  pub table : length plugged ≡ 16
+
+-- the buffers for a request's bytes and for the places of its response
+pub record Buffers (request places : List ℕ) : Type 0 where
+  pub bytes : length request ≡ 24
+  pub room : length places ≡ 10
+
+-- ---- routing over a judged view: is an access whole, and what it is answered
+abbrev pub isWhole : List ℕ → ℕ → ℕ → Bool
+isWhole view a w = allBelow (λ i. follows (leafAt (entries (viewOf view)) a) i (leafAt (entries (viewOf view)) (a + i))) w
+
+abbrev pub routedIn : List ℕ → ℕ → List ℕ → ℕ → ℕ → Routed
+routedIn view block plugged = routed (leafAt (entries (viewOf view))) (pluggedIn block plugged)
+
+-- ---- the way of a step as the code goes it, by the enums of its private modules
+abbrev pub entryBy : Fetched → Entry
+entryBy fetched.Out = out
+entryBy (fetched.Here d) = here d
+
+-- available flags and idx
+unfoldable pub noticesOf : Guest → List ℕ → SplitQueue → AvailableNotices
+noticesOf g memory q =
+    cond (allReach (g .reach) (q .available .0) 4)
+    (cond (eqb (idx g memory q) (q .«next_available»)) notices.Idle
+    (cond (leb (offers g memory q) (q .size)) (notices.Offered (notifies (flags g memory q))) (notices.Stop 18)))
+    (notices.Stop 17)
+
+-- the ring's entry
+unfoldable pub headOf : Guest → List ℕ → SplitQueue → HeadEntry
+headOf g memory q =
+    cond (allReach (g .reach) (ringEntry q) 2)
+    (cond (ltb (entry g memory q) (q .size)) (head.At (entry g memory q)) (head.Stop 19))
+    (head.Stop 17)
+
+abbrev pub headWay : Guest → List ℕ → SplitQueue → Bool → HeadEntry → Way
+headWay g memory q notify (head.Stop k) = halted k
+headWay g memory q notify (head.At h) = along h notify (chainOf g memory q h)
+
+abbrev pub noticesWay : Guest → List ℕ → SplitQueue → AvailableNotices → Way
+noticesWay g memory q (notices.Stop k) = halted k
+noticesWay g memory q notices.Idle = quiet
+noticesWay g memory q (notices.Offered notify) = headWay g memory q notify (headOf g memory q)
+
+-- ---- the chain
 
 -- the used ring's ten bytes lie in the memory
 pub record UsedIn (v : FlatView) (q : SplitQueue) : Type 0 where
@@ -94,6 +155,24 @@ shapeFrom r = cond (eqb (r .stop) 0) (cond (ltb (r .readable) 24 || ltb (r .writ
 -- what the reading half of a step hands on: its offer, and of a chain that is ready the request's bytes and the places for the response
 abbrev pub Takes : Guest → List ℕ → Offer → TakenOffer → List ℕ → List ℕ → Type 0
 Takes g memory (stop k) t request places = t ≡ offer.Stop k
-Takes g memory idle t request places = t ≡ offer.Idle
+Takes g memory nothing t request places = t ≡ offer.Idle
 Takes g memory (ready h notify c) t request places =
     (t ≡ offer.Ready h notify) × (request ≡ requestBytes (g .place) memory c) × (places ≡ responsePlaces (g .place) c)
+
+-- one descriptor, what a chain gives up, and what is taken of a chain and in all, over what is lent
+abbrev pub VisitsIn : List ℕ → List ℕ → ℕ → List ℕ → Descriptor → Got → ℕ → Got → Type 0
+VisitsIn view mem block plugged = Visits (placeIn (viewOf view)) mem (reached (guestIn view block plugged))
+
+abbrev pub GathersIn : List ℕ → List ℕ → ℕ → List ℕ → ℕ → ℕ → ℕ → ℕ → Got → Type 0
+GathersIn view mem block plugged table size h = Gathers (placeIn (viewOf view)) mem (chainAt (guestIn view block plugged) mem table size h)
+
+abbrev pub TakesChain : List ℕ → List ℕ → ℕ → List ℕ → SplitQueue → ℕ → Bool → TakenOffer → List ℕ → List ℕ → Type 0
+TakesChain view mem block plugged q h notify =
+    Takes (guestIn view block plugged) mem (offerChain (guestIn view block plugged) q h notify (chainOf (guestIn view block plugged) mem q h))
+
+abbrev pub TakesAll : List ℕ → List ℕ → ℕ → List ℕ → SplitQueue → TakenOffer → List ℕ → List ℕ → Type 0
+TakesAll view mem block plugged q = Takes (guestIn view block plugged) mem (offered (guestIn view block plugged) mem q)
+
+-- a step over words that 27 let pass
+abbrev pub steppedIn : List ℕ → List ℕ → SplitQueue → List ℕ → Effect MemoryDevice
+steppedIn view device q memory = steppedBy (byView (viewOf view) (deviceOf device)) (deviceOf device) q memory

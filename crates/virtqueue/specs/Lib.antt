@@ -3,11 +3,10 @@ pub mod Route
 pub mod Queue
 pub mod Chain
 pub mod Step
-pub mod Moved
+pub mod Does
 pub mod Run
-pub mod Contracts
 pub mod SecondHalf
+pub mod Unmanaged
 pub mod Causes
 pub mod RouteCauses
-pub mod ByValue
-pub mod Thin
+pub mod Contracts

@@ -1,19 +1,22 @@
 -- What a given flat view gives an address. Assumes nothing: these are definitions.
 use mathlib.Core.Bool.{cond}
-use Prim.Native.Nat.{ℕ, _-_}
+use Prim.Native.Nat.{ℕ}
 use Rattle.region_map.specs.FlatList.{lookup}
+use Rattle.region_map.specs.Reply.{plain}
+use Rattle.region_map.specs.Resolve.{Led, refused, leads}
 use Rattle.map_records.specs.View.{entries}
-use Rattle.region_map.specs.declared.resolve.Resolved.{Resolved}
 use Rattle.region_map.specs.declared.resolve.Resolved.the-variants as resolved
 use Rattle.map_records.specs.declared.view.FlatView.{FlatView}
 use Rattle.virtqueue.specs.declared.view.LookUp.{LookUp}
 use Rattle.virtqueue.specs.declared.view.LookUp.the-variants as answer
 use Rattle.guest_view.specs.View.{viewOk, noRegionBound}
 
--- what a list gives an address, after 27
-abbrev pub given : Resolved → LookUp
-given resolved.Nothing = answer.Nothing
-given (resolved.At n o) = answer.At n o
+-- what the list gives, after 27
+unfoldable pub lookedUp : FlatView → ℕ → ℕ → Led
+lookedUp v memory a = cond (viewOk v memory noRegionBound) (leads (lookup (entries v) a)) (refused (plain 27))
 
-unfoldable pub lookedUp : FlatView → ℕ → ℕ → LookUp
-lookedUp v memory a = cond (viewOk v memory noRegionBound) (given (lookup (entries v) a)) answer.Record
+-- document 01's answer for each answer of the code
+abbrev pub lookedBy : LookUp → Led
+lookedBy (answer.At n o) = leads (resolved.At n o)
+lookedBy answer.Nothing = leads resolved.Nothing
+lookedBy answer.Record = refused (plain 27)

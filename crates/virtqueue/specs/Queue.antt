@@ -40,12 +40,17 @@ abbrev pub cleared : SplitQueue → SplitQueue
 cleared q =
     record { size = q .size; descriptors = q .descriptors; available = q .available; used = q .used; «next_available» = 0; «next_used» = 0; stop = 0 }
 
+-- document 01's answer, and the record
+pub record Given : Type 0 where
+  pub reply : Reply
+  pub queue : SplitQueue
+
 -- a queue made of a size and three areas, or 16
-unfoldable pub made : ℕ → ℕ → ℕ → ℕ → QueueGiven
+unfoldable pub made : ℕ → ℕ → ℕ → ℕ → Given
 made size descriptors available used =
     cond (areasOk size descriptors available used)
     (record {
-      answer = answer.Done;
+      reply = accepted;
       queue =
           record {
             size = size;
@@ -57,17 +62,20 @@ made size descriptors available used =
             stop = 0;
           };
     })
-    (record { answer = answer.Queue; queue = noQueue })
+    (record { reply = plain 16; queue = noQueue })
 
 -- a reset, or 27 with the record as it was
-unfoldable pub wasReset : SplitQueue → QueueGiven
-wasReset q = cond (queueOk q) (record { answer = answer.Done; queue = cleared q }) (record { answer = answer.Record; queue = q })
+unfoldable pub wasReset : SplitQueue → Given
+wasReset q = cond (queueOk q) (record { reply = accepted; queue = cleared q }) (record { reply = plain 27; queue = q })
 
 -- document 01's number for each answer
 abbrev pub queueReply : QueueAnswer → Reply
 queueReply answer.Done = accepted
 queueReply answer.Queue = plain 16
 queueReply answer.Record = plain 27
+
+abbrev pub givenBy : QueueGiven → Given
+givenBy g = record { reply = queueReply (g .answer); queue = g .queue }
 
 -- VIRTIO 2.6.6 and 2.6.8: a ring has flags and idx of two bytes each, then its entries, of which a count takes its own modulo the size; places by the ring's address, a count and the size
 abbrev pub ringEntryAt : ℕ → ℕ → ℕ → ℕ

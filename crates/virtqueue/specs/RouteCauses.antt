@@ -4,15 +4,13 @@ use Prim.Native.Nat.{ℕ, _+_}
 use lib.Dec.{eqb}
 use Rattle.device_words.specs.Table.{allBelow}
 use Rattle.guest_view.specs.Guest.{Leaf}
-use Rattle.virtqueue.specs.Route.{widthOk, isNowhere, follows, isOpen}
-use Rattle.virtqueue.specs.declared.route.RouteAnswer.{RouteAnswer}
-use Rattle.virtqueue.specs.declared.route.RouteAnswer.the-variants as route
+use Rattle.virtqueue.specs.Route.{Routed, refused, toMemory, toPort, widthOk, isNowhere, follows, isOpen}
 
 -- an answer is the refusal with this number
-abbrev pub routeRefusedBy : ℕ → RouteAnswer → Bool
-routeRefusedBy k (route.Refused n) = eqb n k
-routeRefusedBy k (route.Memory p) = false
-routeRefusedBy k (route.Port p o) = false
+abbrev pub routeRefusedBy : ℕ → Routed → Bool
+routeRefusedBy k (refused n) = eqb n k
+routeRefusedBy k (toMemory p) = false
+routeRefusedBy k (toPort p o) = false
 
 -- Routing.
 module _ (answers : ℕ → Leaf) (plugged : ℕ → Bool) (a w : ℕ) where

@@ -5,50 +5,66 @@ use mathlib.Core.Path.{_≡_}
 use Prim.Native.Nat.{ℕ, zero, suc, _+_, min}
 use lib.ListN.{length}
 use Rattle.map_records.specs.declared.view.FlatView.{FlatView}
+use Rattle.region_map.specs.Reply.{Reply, accepted, plain}
 use Rattle.device_words.specs.Device.{MemoryDevice}
-use Rattle.guest_view.specs.Guest.{byView}
-use Rattle.virtqueue.specs.Step.{Effect, steppedBy, recordsOk, stepped}
+use Rattle.virtqueue.specs.Step.{Answer, refused, served, Effect, recordsOk, stepped}
+use Rattle.virtqueue.specs.Step as step
+use Rattle.virtqueue.specs.Does.{laid}
 use Rattle.virtqueue.specs.declared.queue.SplitQueue.{SplitQueue}
-use Rattle.virtqueue.specs.declared.step.StepOutcome.{StepOutcome}
-use Rattle.virtqueue.specs.declared.step.StepOutcome.the-variants as outcome
 use Rattle.virtqueue.specs.declared.run.RunEnd.{RunEnd}
 use Rattle.virtqueue.specs.declared.run.RunEnd.the-variants as end
 use Rattle.virtqueue.specs.declared.run.Ran.{Ran}
-use Rattle.virtqueue.specs.Moved.{laid}
 
--- what a run gives: the answer with the queue's record, the device's record, and memory
+-- 'its end: all done, idle, or the stop's number'
+pub data End : Type 0 where
+  allDone : End
+  idle : End
+  refusedBy : ℕ → End
+
+-- document 01's number
+abbrev pub endReply : End → Reply
+endReply allDone = accepted
+endReply idle = accepted
+endReply (refusedBy n) = plain n
+
+-- 'it returns the count of served ones, whether one of its steps notified, and its end'; with the next states and memory
 pub record RunEffect : Type 0 where
-  pub result : Ran
+  pub served : ℕ
+  pub notified : Bool
+  pub end : End
   pub device : MemoryDevice
+  pub queue : SplitQueue
   pub memory : List ℕ
 
-abbrev pub runEnds : ℕ → Bool → RunEnd → MemoryDevice → SplitQueue → List ℕ → RunEffect
-runEnds served notified e d q memory =
-    record { result = record { served = served; notified = notified; end = e; queue = q }; device = d; memory = memory }
+abbrev pub runEnds : ℕ → Bool → End → MemoryDevice → SplitQueue → List ℕ → RunEffect
+runEnds count notified e d q memory = record { served = count; notified = notified; end = e; device = d; queue = q; memory = memory }
 
 -- after one step: a run ends with the first idle or stop, else `rest` goes on
-abbrev pub goesOn : ℕ → Bool → (ℕ → Bool → MemoryDevice → SplitQueue → List ℕ → RunEffect) → Effect → StepOutcome → RunEffect
-goesOn served notified rest e (outcome.Refused n) = runEnds served notified (end.Refused n) (e .result .device) (e .result .queue) (e .memory)
-goesOn served notified rest e outcome.Idle = runEnds served notified end.Idle (e .result .device) (e .result .queue) (e .memory)
-goesOn served notified rest e (outcome.Served b) = rest (served + 1) (notified || b) (e .result .device) (e .result .queue) (e .memory)
+abbrev pub goesOn : ℕ → Bool → (ℕ → Bool → MemoryDevice → SplitQueue → List ℕ → RunEffect) → Effect MemoryDevice → Answer → RunEffect
+goesOn count notified rest e (refused n) = runEnds count notified (refusedBy n) (e .device) (e .queue) (e .memory)
+goesOn count notified rest e step.idle = runEnds count notified idle (e .device) (e .queue) (e .memory)
+goesOn count notified rest e (served b) = rest (count + 1) (notified || b) (e .device) (e .queue) (e .memory)
 
--- 'k single steps up to the first idle or stop': k more, after `served` of which one notified or none
-unfoldable pub stepsFrom : FlatView → ℕ → ℕ → Bool → MemoryDevice → SplitQueue → List ℕ → RunEffect
-stepsFrom v zero served notified d q memory = runEnds served notified end.AllDone d q memory
-stepsFrom v (suc k) served notified d q memory =
-    goesOn served notified (stepsFrom v k) (steppedBy (byView v d) d q memory) (steppedBy (byView v d) d q memory .result .outcome)
+-- k more steps up to the first idle or stop, after `count` that were served; `one` gives a single step
+unfoldable pub stepsBy : (MemoryDevice → SplitQueue → List ℕ → Effect MemoryDevice) → ℕ → ℕ → Bool → MemoryDevice → SplitQueue → List ℕ → RunEffect
+stepsBy one zero count notified d q memory = runEnds count notified allDone d q memory
+stepsBy one (suc k) count notified d q memory = goesOn count notified (stepsBy one k) (one d q memory) (one d q memory .answer)
 
--- the same by single steps, each of which judges its records
-unfoldable pub singleSteps : FlatView → ℕ → ℕ → Bool → MemoryDevice → SplitQueue → List ℕ → RunEffect
-singleSteps v zero served notified d q memory = runEnds served notified end.AllDone d q memory
-singleSteps v (suc k) served notified d q memory =
-    goesOn served notified (singleSteps v k) (stepped v d q memory) (stepped v d q memory .result .outcome)
+-- 'equals k single steps up to the first idle or stop': steps of the public kind, each of which judges its records
+abbrev pub singleSteps : FlatView → ℕ → MemoryDevice → SplitQueue → List ℕ → RunEffect
+singleSteps v k d q memory = stepsBy (stepped v) k 0 false d q memory
 
--- 'a k over 256 counts as 256; 0 changes nothing'; 27 comes first, once
+-- 'a k over 256 counts as 256; 0 changes nothing'; '27 comes first wherever such a record is given', for a k of 0 too
 unfoldable pub ran : FlatView → MemoryDevice → SplitQueue → List ℕ → ℕ → RunEffect
-ran v d q memory k =
-    cond (recordsOk v d q (length memory)) (stepsFrom v (min k 256) 0 false d q memory) (runEnds 0 false (end.Refused 27) d q memory)
+ran v d q memory k = cond (recordsOk v d q (length memory)) (singleSteps v (min k 256) d q memory) (runEnds 0 false (refusedBy 27) d q memory)
 
--- what a run leaves over words w of a device: the answer, the device's words and memory
-abbrev pub RunLeaves : List ℕ → RunEffect → Ran → List ℕ → List ℕ → Type 0
-RunLeaves w e r device memory = (r ≡ e .result) × (device ≡ laid w (e .device)) × (memory ≡ e .memory)
+-- document 01's end for each end of the code
+abbrev pub endOf : RunEnd → End
+endOf end.AllDone = allDone
+endOf end.Idle = idle
+endOf (end.Refused n) = refusedBy n
+
+-- a run over a device in the words w returned r, and left the words `device` and memory, as e says
+abbrev pub RunDoes : List ℕ → RunEffect → Ran → List ℕ → List ℕ → Type 0
+RunDoes w e r device memory =
+    (r .served ≡ e .served) × (r .notified ≡ e .notified) × (endOf (r .end) ≡ e .end) × (r .queue ≡ e .queue) × (device ≡ laid w (e .device)) × (memory ≡ e .memory)

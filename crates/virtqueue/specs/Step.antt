@@ -1,52 +1,72 @@
--- The queue step, phase by phase in document 01's order: first all that is read, then all that is written. Assumes nothing: these are definitions.
-use mathlib.Core.Bool.{Bool, true, false, cond, _&&_, _||_}
-use mathlib.Core.List.{List, [], _∷_, _++_, map}
-use Prim.Native.Nat.{ℕ, _+_, _*_, _%_}
-use lib.Dec.{eqb, ltb}
+-- The queue step in document 01's order: first all that is read, then all that is written. Assumes nothing: these are definitions.
+use mathlib.Core.Bool.{Bool, true, false, cond, _&&_}
+use mathlib.Core.List.{List, _++_, map}
+use Prim.Native.Nat.{ℕ, _+_, _%_}
+use lib.Dec.{eqb, leb, ltb}
 use lib.ListN.{length}
 use Rattle.region_map.specs.Reply.{Reply, accepted, plain}
 use Rattle.map_records.specs.declared.view.FlatView.{FlatView}
 use Rattle.device_words.specs.Bytes.{le}
-use Rattle.device_words.specs.Device.{deviceOk}
+use Rattle.device_words.specs.Device.{MemoryDevice, deviceOk}
 use Rattle.device_words.specs.Request.{requestOf, carriedOut}
-use Rattle.device_words.specs.Device.{MemoryDevice}
 use Rattle.guest_view.specs.Guest.{Guest, allReach, addresses, byteAt, numberAt, written, byView}
 use Rattle.guest_view.specs.View.{viewOk}
 use Rattle.virtqueue.specs.Queue.{queueOk, ringEntry, usedEntry, usedIdx, distance, nextIndex, stoppedBy, advanced}
 use Rattle.virtqueue.specs.Chain.{Chain, ended, readable, writable, firstBytes, shapeOf, chainAt}
 use Rattle.virtqueue.specs.declared.queue.SplitQueue.{SplitQueue}
-use Rattle.virtqueue.specs.declared.take.AvailableNotices.{AvailableNotices}
-use Rattle.virtqueue.specs.declared.take.AvailableNotices.the-variants as notices
-use Rattle.virtqueue.specs.declared.take.HeadEntry.{HeadEntry}
-use Rattle.virtqueue.specs.declared.take.HeadEntry.the-variants as head
-use Rattle.virtqueue.specs.declared.step.StepOutcome.{StepOutcome}
-use Rattle.virtqueue.specs.declared.step.StepOutcome.the-variants.{Refused, Idle, Served}
 
--- Over one guest, memory and queue record.
+-- ---- what a step reads
+
+-- the available ring's flags and idx, and its entry at seen mod n
+abbrev pub flags : Guest → List ℕ → SplitQueue → ℕ
+flags g memory q = numberAt (g .place) memory (q .available .0) 2
+
+abbrev pub idx : Guest → List ℕ → SplitQueue → ℕ
+idx g memory q = numberAt (g .place) memory (q .available .0 + 2) 2
+
+abbrev pub entry : Guest → List ℕ → SplitQueue → ℕ
+entry g memory q = numberAt (g .place) memory (ringEntry q) 2
+
+-- how far idx is ahead of what was seen
+abbrev pub offers : Guest → List ℕ → SplitQueue → ℕ
+offers g memory q = distance (idx g memory q) (q .«next_available»)
 
 -- 'Notify unless available flags bit 0'
 abbrev pub notifies : ℕ → Bool
-notifies flags = eqb (flags % 2) 0
+notifies f = eqb (f % 2) 0
 
--- 'available flags and idx (17); idx equal to seen: idle; 18, the distance taken modulo 65,536'
-unfoldable pub noticesOf : Guest → List ℕ → SplitQueue → AvailableNotices
-noticesOf g memory q =
-    cond (allReach (g .reach) (q .available .0) 4)
-    (cond (eqb (numberAt (g .place) memory (q .available .0 + 2) 2) (q .«next_available»)) notices.Idle
-    (cond (ltb (q .size) (distance (numberAt (g .place) memory (q .available .0 + 2) 2) (q .«next_available»))) (notices.Stop 18)
-    (notices.Offered (notifies (numberAt (g .place) memory (q .available .0) 2)))))
-    (notices.Stop 17)
-
--- 'ring entry at seen mod n (17); 19'
-unfoldable pub headOf : Guest → List ℕ → SplitQueue → HeadEntry
-headOf g memory q =
-    cond (allReach (g .reach) (ringEntry q) 2)
-    (cond (ltb (numberAt (g .place) memory (ringEntry q) 2) (q .size)) (head.At (numberAt (g .place) memory (ringEntry q) 2)) (head.Stop 19))
-    (head.Stop 17)
-
--- 'per descriptor ..': the chain from the head on
+-- 'per descriptor ..': the chain from a head on
 abbrev pub chainOf : Guest → List ℕ → SplitQueue → ℕ → Chain
 chainOf g memory q h = chainAt g memory (q .descriptors .0) (q .size) h
+
+-- The way of a step: a number that ends it before its chain, nothing offered, or its head, whether to notify, and the chain that it goes along.
+pub data Way : Type 0 where
+  halted : ℕ → Way
+  quiet : Way
+  along : ℕ → Bool → Chain → Way
+
+abbrev pub unless : Bool → ℕ → Way → Way
+unless ok k rest = cond ok rest (halted k)
+
+-- 'Order: stopped (same number again); available flags and idx (17); idx equal to seen: idle; 18, the distance taken modulo 65,536; ring entry at seen mod n (17); 19; per descriptor ..'
+unfoldable pub wayOf : Guest → List ℕ → SplitQueue → Way
+wayOf g memory q =
+    unless (eqb (q .stop) 0) (q .stop)
+    (unless (allReach (g .reach) (q .available .0) 4) 17
+    (cond (eqb (idx g memory q) (q .«next_available»)) quiet
+    (unless (leb (offers g memory q) (q .size)) 18
+    (unless (allReach (g .reach) (ringEntry q) 2) 17
+    (unless (ltb (entry g memory q) (q .size)) 19
+    (along (entry g memory q) (notifies (flags g memory q)) (chainOf g memory q (entry g memory q))))))))
+
+-- The elements that a step comes to, each accepted or not, in `Chain`: 'A step comes to an element when nothing before that element's 21 in the order ends it'. A step that ends before its chain comes to none.
+abbrev pub chainIn : Way → Chain
+chainIn (halted k) = ended k
+chainIn quiet = ended 0
+chainIn (along h notify c) = c
+
+abbrev pub comesTo : Guest → List ℕ → SplitQueue → Chain
+comesTo g memory q = chainIn (wayOf g memory q)
 
 -- 'used element and used idx (17)'
 unfoldable pub usedReached : Guest → SplitQueue → Bool
@@ -55,24 +75,23 @@ usedReached g q = allReach (g .reach) (usedEntry q) 8 && allReach (g .reach) (us
 -- What the reading half of a step comes to: a number, nothing to do, or a head, whether to notify, and a chain to serve.
 pub data Offer : Type 0 where
   stop : ℕ → Offer
-  idle : Offer
+  nothing : Offer
   ready : ℕ → Bool → Chain → Offer
 
+-- '.. 22; used element and used idx (17)', after what ended the chain
 unfoldable pub offerChain : Guest → SplitQueue → ℕ → Bool → Chain → Offer
 offerChain g q h notify c = cond (eqb (shapeOf c) 0) (cond (usedReached g q) (ready h notify c) (stop 17)) (stop (shapeOf c))
 
-abbrev pub offerHead : Guest → List ℕ → SplitQueue → Bool → HeadEntry → Offer
-offerHead g memory q notify (head.Stop k) = stop k
-offerHead g memory q notify (head.At h) = offerChain g q h notify (chainOf g memory q h)
+-- read off the way and its chain
+abbrev pub offerOf : Guest → SplitQueue → Way → Offer
+offerOf g q (halted k) = stop k
+offerOf g q quiet = nothing
+offerOf g q (along h notify c) = offerChain g q h notify c
 
-abbrev pub offerNotices : Guest → List ℕ → SplitQueue → AvailableNotices → Offer
-offerNotices g memory q (notices.Stop k) = stop k
-offerNotices g memory q notices.Idle = idle
-offerNotices g memory q (notices.Offered notify) = offerHead g memory q notify (headOf g memory q)
+abbrev pub offered : Guest → List ℕ → SplitQueue → Offer
+offered g memory q = offerOf g q (wayOf g memory q)
 
--- 'stopped (same number again)' comes first
-unfoldable pub offered : Guest → List ℕ → SplitQueue → Offer
-offered g memory q = cond (eqb (q .stop) 0) (offerNotices g memory q (noticesOf g memory q)) (stop (q .stop))
+-- ---- what it writes
 
 -- 'the first 24 readable bytes are carried out as the request'
 unfoldable pub requestBytes : (ℕ → ℕ) → List ℕ → Chain → List ℕ
@@ -102,48 +121,49 @@ carrying d request = record { response = carriedOut d (requestOf request) .respo
 abbrev pub servedMemory : List ℕ → List ℕ → List ℕ → List ℕ → List ℕ → List ℕ
 servedMemory memory places response used bytes = written (written memory places response) used bytes
 
--- What a step leaves, whatever carries requests out.
-pub record After (D : Type 0) : Type 0 where
-  pub outcome : StepOutcome
+-- ---- the step
+
+-- What a step answers: the number that refuses it, nothing to do, or a chain served and whether to notify the guest.
+pub data Answer : Type 0 where
+  refused : ℕ → Answer
+  idle : Answer
+  served : Bool → Answer
+
+-- document 01's number
+abbrev pub stepReply : Answer → Reply
+stepReply (refused n) = plain n
+stepReply idle = accepted
+stepReply (served notify) = accepted
+
+-- What a step gives, whatever carries requests out: the answer, the next states, and memory.
+pub record Effect (D : Type 0) : Type 0 where
+  pub answer : Answer
   pub device : D
   pub queue : SplitQueue
   pub memory : List ℕ
 
-abbrev pub servedBy : {D : Type 0} → Guest → (List ℕ → Reaction D) → SplitQueue → List ℕ → ℕ → Bool → Chain → After D
+abbrev pub unmoved : {D : Type 0} → Answer → D → SplitQueue → List ℕ → Effect D
+unmoved a d q memory = record { answer = a; device = d; queue = q; memory = memory }
+
+abbrev pub servedBy : {D : Type 0} → Guest → (List ℕ → Reaction D) → SplitQueue → List ℕ → ℕ → Bool → Chain → Effect D
 servedBy g carry q memory h notify c =
     record {
-      outcome = Served notify;
+      answer = served notify;
       device = carry (requestBytes (g .place) memory c) .device;
       queue = advanced q;
       memory = servedMemory memory (responsePlaces (g .place) c) (carry (requestBytes (g .place) memory c) .response) (usedPlaces (g .place) q) (usedBytes (q .«next_used») h);
     }
 
--- the step after its reading half, `carry` carrying the request out
-abbrev pub finishedBy : {D : Type 0} → Guest → (List ℕ → Reaction D) → D → SplitQueue → List ℕ → Offer → After D
-finishedBy g carry d q memory (stop k) = record { outcome = Refused k; device = d; queue = stoppedBy q k; memory = memory }
-finishedBy g carry d q memory idle = record { outcome = Idle; device = d; queue = q; memory = memory }
+-- the step after its reading half, `carry` carrying the request out: '17 to 22 only stop the queue with that number'
+abbrev pub finishedBy : {D : Type 0} → Guest → (List ℕ → Reaction D) → D → SplitQueue → List ℕ → Offer → Effect D
+finishedBy g carry d q memory (stop k) = unmoved (refused k) d (stoppedBy q k) memory
+finishedBy g carry d q memory nothing = unmoved idle d q memory
 finishedBy g carry d q memory (ready h notify c) = servedBy g carry q memory h notify c
 
--- What a step of the memory device gives: the answer with the records, and memory.
-pub record Result : Type 0 where
-  pub outcome : StepOutcome
-  pub device : MemoryDevice
-  pub queue : SplitQueue
+abbrev pub finished : Guest → MemoryDevice → SplitQueue → List ℕ → Offer → Effect MemoryDevice
+finished g d q memory o = finishedBy g (carrying d) d q memory o
 
-pub record Effect : Type 0 where
-  pub result : Result
-  pub memory : List ℕ
-
-abbrev pub effectOf : After MemoryDevice → Effect
-effectOf a = record { result = record { outcome = a .outcome; device = a .device; queue = a .queue }; memory = a .memory }
-
-abbrev pub unmoved : StepOutcome → MemoryDevice → SplitQueue → List ℕ → Effect
-unmoved o d q memory = record { result = record { outcome = o; device = d; queue = q }; memory = memory }
-
-abbrev pub finished : Guest → MemoryDevice → SplitQueue → List ℕ → Offer → Effect
-finished g d q memory o = effectOf (finishedBy g (carrying d) d q memory o)
-
-unfoldable pub steppedBy : Guest → MemoryDevice → SplitQueue → List ℕ → Effect
+unfoldable pub steppedBy : Guest → MemoryDevice → SplitQueue → List ℕ → Effect MemoryDevice
 steppedBy g d q memory = finished g d q memory (offered g memory q)
 
 -- '27 comes first': the view over this memory and the device's region, the device and the queue
@@ -151,24 +171,5 @@ unfoldable pub recordsOk : FlatView → MemoryDevice → SplitQueue → ℕ → 
 recordsOk v d q memory = viewOk v memory (d .«region_size») && (deviceOk d && queueOk q)
 
 -- One step over a given view. 'Reachable means .. plugged when the step began': the guest is that of the device as it is given.
-unfoldable pub stepped : FlatView → MemoryDevice → SplitQueue → List ℕ → Effect
-stepped v d q memory = cond (recordsOk v d q (length memory)) (steppedBy (byView v d) d q memory) (unmoved (Refused 27) d q memory)
-
--- document 01's number
-abbrev pub stepReply : StepOutcome → Reply
-stepReply (Refused n) = plain n
-stepReply Idle = accepted
-stepReply (Served notify) = accepted
-
--- The elements that a step comes to, each accepted or not, in `Chain`: 'A step comes to an element when nothing before that element's 21 in the order ends it'. A step that ends before its chain comes to none.
-abbrev pub headChain : Guest → List ℕ → SplitQueue → HeadEntry → Chain
-headChain g memory q (head.Stop k) = ended k
-headChain g memory q (head.At h) = chainOf g memory q h
-
-abbrev pub noticesChain : Guest → List ℕ → SplitQueue → AvailableNotices → Chain
-noticesChain g memory q (notices.Stop k) = ended k
-noticesChain g memory q notices.Idle = ended 0
-noticesChain g memory q (notices.Offered notify) = headChain g memory q (headOf g memory q)
-
-unfoldable pub comesTo : Guest → List ℕ → SplitQueue → Chain
-comesTo g memory q = cond (eqb (q .stop) 0) (noticesChain g memory q (noticesOf g memory q)) (ended (q .stop))
+unfoldable pub stepped : FlatView → MemoryDevice → SplitQueue → List ℕ → Effect MemoryDevice
+stepped v d q memory = cond (recordsOk v d q (length memory)) (steppedBy (byView v d) d q memory) (unmoved (refused 27) d q memory)

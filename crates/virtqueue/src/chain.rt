@@ -1,17 +1,18 @@
 // A chain of descriptors: its rules, and what a step takes from it.
 ghost use mathlib.Core.Path.{_≡_};
-ghost use Prim.Native.Nat.{_+_, _≤_, _<_, min};
+ghost use Prim.Native.Nat.{_≤_, _<_, min};
 ghost use lib.ListN.{length};
 ghost use Rattle.map_records.specs.Words.{viewOf};
 ghost use Rattle.guest_view.specs.Contracts.{Judged, Backed, InMemory, placeIn};
-ghost use Rattle.virtqueue.specs.Chain.{hasNext, isWritable, misplaced, descriptorAt, fetched, reached, chainAt};
-ghost use Rattle.virtqueue.specs.Contracts.{guestIn, Small, Filled, added, gotOf, Visits, Gathers};
+ghost use Rattle.virtqueue.specs.Chain.{hasNext, isWritable, misplaced, descriptorAt, fetched};
+ghost use Rattle.virtqueue.specs.Contracts.{guestIn, entryBy, Lent, Buffers, Small, Filled, added, gotOf, VisitsIn, GathersIn};
 use guest_view::find::near;
 use guest_view::memory::find_places;
 use guest_view::memory::number_from;
 use guest_view::memory::read_bytes;
 use guest_view::reach::reaches;
 use map_records::map::GuestAddress;
+use map_records::numbers::least;
 
 // VIRTIO's descriptor: an element of a chain, with flags and the next entry's number.
 pub struct Descriptor {
@@ -94,11 +95,9 @@ fn fetch(
     i: u64,
     hint: usize,
 ) -> Fetched
-    requires { ⌜ Judged (now view) ⌝ }
-    requires { ⌜ Backed (viewOf (now view)) (length (now mem)) ⌝ }
-    requires { ⌜ (0 < block) × (length (now plugged) ≡ 16) ⌝ }
+    requires { ⌜ Lent (now view) (now mem) block (now plugged) ⌝ }
     requires { ⌜ (table .0 ≤ 281474976710656) × (i < 65536) ⌝ }
-    ensures { λ r. ⌜ r ≡ fetched (guestIn (now (view .entry)) block (now (plugged .entry))) (now (mem .entry)) (table .0) i ⌝ }
+    ensures { λ r. ⌜ entryBy r ≡ fetched (guestIn (now (view .entry)) block (now (plugged .entry))) (now (mem .entry)) (table .0) i ⌝ }
 {
     let at = GuestAddress(table.0 + 16 * i);
     if reaches(view, block, plugged, hint, at, 16) {
@@ -108,10 +107,11 @@ fn fetch(
     Fetched::Out
 }
 
-fn smaller(a: usize, b: u64) -> usize
-    ensures { λ r. ⌜ r ≡ min a b ⌝ }
+// How many bytes of an element there is room for.
+fn fitting(room: usize, length: u64) -> usize
+    ensures { λ r. ⌜ r ≡ min room length ⌝ }
 {
-    if (a as u64) < b { a } else { b as usize }
+    least(room as u64, length) as usize
 }
 
 // What an accepted element adds: bytes of the request up to 24, or places for the response up to 10.
@@ -129,12 +129,12 @@ fn add_element(
     requires { ⌜ InMemory (viewOf (now view)) (d .addr .0) (d .length) ⌝ }
     requires { ⌜ Filled «so_far» (now request) (now places) ⌝ }
     ensures { λ r. ⌜ (gotOf r (now (request .exit)) (now (places .exit))
-        ≡ added (placeIn (viewOf (now (view .entry)))) (now (mem .entry)) (gotOf «so_far» (now (request .entry)) (now (places .entry))) d)
-        × (r .stop ≡ 0) ⌝ }
+        ≡ added (placeIn (viewOf (now (view .entry)))) (now (mem .entry))
+        (gotOf «so_far» (now (request .entry)) (now (places .entry))) d) × (r .stop ≡ 0) ⌝ }
 {
     if is_writable(d) {
         let from = so_far.writable;
-        let end = from + smaller(10 - from, d.length);
+        let end = from + fitting(10 - from, d.length);
         find_places(view, hint, d.addr, &mut places[from..end]);
         return Gathered {
             stop: 0,
@@ -144,7 +144,7 @@ fn add_element(
         };
     }
     let from = so_far.readable;
-    let end = from + smaller(24 - from, d.length);
+    let end = from + fitting(24 - from, d.length);
     read_bytes(view, mem, hint, d.addr, &mut request[from..end]);
     Gathered {
         stop: 0,
@@ -178,13 +178,11 @@ fn visit(
     request: &mut [u8],
     places: &mut [usize],
 ) -> Gathered
-    requires { ⌜ Judged (now view) ⌝ }
-    requires { ⌜ Backed (viewOf (now view)) (length (now mem)) ⌝ }
-    requires { ⌜ (0 < block) × (length (now plugged) ≡ 16) ⌝ }
+    requires { ⌜ Lent (now view) (now mem) block (now plugged) ⌝ }
     requires { ⌜ Filled «so_far» (now request) (now places) ⌝ }
-    ensures { λ r. ⌜ Visits (placeIn (viewOf (now (view .entry)))) (now (mem .entry))
-        (reached (guestIn (now (view .entry)) block (now (plugged .entry)))) d
-        (gotOf «so_far» (now (request .entry)) (now (places .entry))) (r .stop) (gotOf r (now (request .exit)) (now (places .exit))) ⌝ }
+    ensures { λ r. ⌜ VisitsIn (now (view .entry)) (now (mem .entry)) block (now (plugged .entry)) d
+        (gotOf «so_far» (now (request .entry)) (now (places .entry))) (r .stop)
+        (gotOf r (now (request .exit)) (now (places .exit))) ⌝ }
 {
     if is_misplaced(so_far.late, d) {
         return ended(20);
@@ -209,13 +207,10 @@ pub fn gather(
     request: &mut [u8],
     places: &mut [usize],
 ) -> Gathered
-    requires { ⌜ Judged (now view) ⌝ }
-    requires { ⌜ Backed (viewOf (now view)) (length (now mem)) ⌝ }
-    requires { ⌜ (0 < block) × (length (now plugged) ≡ 16) ⌝ }
+    requires { ⌜ Lent (now view) (now mem) block (now plugged) ⌝ }
     requires { ⌜ (table .0 ≤ 281474976710656) × (size ≤ 256) × (head < size) ⌝ }
-    requires { ⌜ (length (now request) ≡ 24) × (length (now places) ≡ 10) ⌝ }
-    ensures { λ r. ⌜ Gathers (placeIn (viewOf (now (view .entry)))) (now (mem .entry))
-        (chainAt (guestIn (now (view .entry)) block (now (plugged .entry))) (now (mem .entry)) (table .0) size head)
+    requires { ⌜ Buffers (now request) (now places) ⌝ }
+    ensures { λ r. ⌜ GathersIn (now (view .entry)) (now (mem .entry)) block (now (plugged .entry)) (table .0) size head
         (r .stop) (gotOf r (now (request .exit)) (now (places .exit))) ⌝ }
 {
     let mut so_far = Gathered {

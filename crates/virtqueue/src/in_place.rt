@@ -3,7 +3,7 @@ ghost use mathlib.Core.Path.{_≡_};
 ghost use Rattle.map_records.specs.Words.{viewOf};
 ghost use Rattle.device_words.specs.Words.{deviceOf};
 ghost use Rattle.virtqueue.specs.Step.{recordsOk, stepped};
-ghost use Rattle.virtqueue.specs.Moved.{LeavesIn};
+ghost use Rattle.virtqueue.specs.Does.{DoesIn};
 use crate::queue::SplitQueue;
 use crate::serve::step_judged;
 use crate::step::Moved;
@@ -27,7 +27,7 @@ pub fn records_ok(view: &[u64], device: &[u64], queue: SplitQueue, memory_length
 
 // Takes the next chain, if there is one, carries its request out and returns it.
 pub fn step_in_place(view: &[u64], device: &mut [u64], queue: SplitQueue, mem: &mut [u8]) -> Moved
-    ensures { λ r. ⌜ LeavesIn (now (device .entry))
+    ensures { λ r. ⌜ DoesIn (now (device .entry))
         (stepped (viewOf (now (view .entry))) (deviceOf (now (device .entry))) queue (now (mem .entry)))
         r (now (device .exit)) (now (mem .exit)) ⌝ }
 {

@@ -1,10 +1,10 @@
 // The device side's record of a split queue.
 ghost use mathlib.Core.Path.{_≡_};
-ghost use Prim.Native.Nat.{_+_, _<_};
-ghost use lib.Dec.{leb};
+ghost use Prim.Native.Nat.{_<_};
 ghost use Rattle.region_map.specs.Reply.{numberOf};
-ghost use Rattle.virtqueue.specs.Queue.{sizeOk, areaOk, areasOk, stopOk, queueOk, noQueue, made, wasReset, queueReply};
+ghost use Rattle.virtqueue.specs.Queue.{sizeOk, areaOk, areasOk, stopOk, queueOk, noQueue, made, wasReset, queueReply, givenBy};
 use map_records::map::GuestAddress;
+use map_records::numbers::sum_within;
 
 // The queue's size and areas, the two free-running indices, and the stop: 0 for none, or document 01's
 // number. `next_available` is what document 01 calls seen, `next_used` its own count.
@@ -33,16 +33,6 @@ pub struct QueueGiven {
 
 // Addresses end here: 2^48.
 const LIMIT: u64 = 281474976710656;
-
-// Is the sum at most the limit? It never wraps.
-fn sum_within(a: u64, b: u64, limit: u64) -> bool
-    ensures { λ r. ⌜ r ≡ leb (a + b) limit ⌝ }
-{
-    if limit < b {
-        return false;
-    }
-    a <= limit - b
-}
 
 // Is the size a power of two from 1 to 256?
 fn size_ok(n: u64) -> bool
@@ -105,7 +95,7 @@ pub fn make_queue(
     available: GuestAddress,
     used: GuestAddress,
 ) -> QueueGiven
-    ensures { λ r. ⌜ r ≡ made size (descriptors .0) (available .0) (used .0) ⌝ }
+    ensures { λ r. ⌜ givenBy r ≡ made size (descriptors .0) (available .0) (used .0) ⌝ }
 {
     if areas_ok(size, descriptors.0, available.0, used.0) {
         return QueueGiven {
@@ -137,7 +127,7 @@ impl SplitQueue {
 
     // A queue reset: the indices at 0 and the stop cleared.
     pub fn reset(self) -> QueueGiven
-        ensures { λ r. ⌜ r ≡ wasReset self ⌝ }
+        ensures { λ r. ⌜ givenBy r ≡ wasReset self ⌝ }
     {
         if self.keeps_rules() {
             let mut fresh = self;

@@ -5,15 +5,14 @@ ghost use mathlib.Core.List.{[], _∷_};
 ghost use Prim.Native.Nat.{_+_, _*_, _/_, _≤_, _<_};
 ghost use lib.ListN.{length};
 ghost use lib.Seq.{sets};
-ghost use Rattle.map_records.specs.View.{entries};
 ghost use Rattle.region_map.specs.Reply.{numberOf};
 ghost use Rattle.device_words.specs.Table.{allBelow};
 ghost use Rattle.device_words.specs.Device.{pluggedIn};
 ghost use Rattle.device_words.specs.Words.{deviceOf};
 ghost use Rattle.map_records.specs.Words.{viewOf};
-ghost use Rattle.guest_view.specs.Guest.{leafAt};
 ghost use Rattle.guest_view.specs.Contracts.{Judged, Spot};
-ghost use Rattle.virtqueue.specs.Route.{widthOk, follows, routed, routedWith, routedWithout, routeReply, answerWords, answersTo, answersFit, allWith, allWithout};
+ghost use Rattle.virtqueue.specs.Route.{widthOk, routedBy, routedWith, routedWithout, routeReply, answerWords, answersTo, answersFit, allWith, allWithout, RoutesAll};
+ghost use Rattle.virtqueue.specs.Contracts.{isWhole, routedIn};
 use crate::view::NO_REGION;
 use device_words::rules::device_ok;
 use device_words::words::block_size;
@@ -52,7 +51,7 @@ fn bytes_follow(view: &[u64], at: usize, a: GuestAddress, w: u64) -> bool
     requires { ⌜ Judged (now view) ⌝ }
     requires { ⌜ Spot (viewOf (now view)) (a .0) at ⌝ }
     requires { ⌜ (at < (viewOf (now view)) .count) × (0 < w) × (w ≤ 8) ⌝ }
-    ensures { λ r. ⌜ r ≡ allBelow (λ i. follows (leafAt (entries (viewOf (now (view .entry)))) (a .0)) i (leafAt (entries (viewOf (now (view .entry)))) (a .0 + i))) w ⌝ }
+    ensures { λ r. ⌜ r ≡ isWhole (now (view .entry)) (a .0) w ⌝ }
 {
     let range = range_at(view, at);
     let offset = offset_in(range, a);
@@ -78,7 +77,7 @@ fn is_whole(view: &[u64], at: usize, a: GuestAddress, w: u64) -> bool
     requires { ⌜ Judged (now view) ⌝ }
     requires { ⌜ Spot (viewOf (now view)) (a .0) at ⌝ }
     requires { ⌜ (at < (viewOf (now view)) .count) × (0 < w) × (w ≤ 8) ⌝ }
-    ensures { λ r. ⌜ r ≡ allBelow (λ i. follows (leafAt (entries (viewOf (now (view .entry)))) (a .0)) i (leafAt (entries (viewOf (now (view .entry)))) (a .0 + i))) w ⌝ }
+    ensures { λ r. ⌜ r ≡ isWhole (now (view .entry)) (a .0) w ⌝ }
 {
     let range = range_at(view, at);
     if w - 1 <= range.last.0 - a.0 {
@@ -115,7 +114,7 @@ fn route_at(
     requires { ⌜ Judged (now view) ⌝ }
     requires { ⌜ (8 ≤ block) × (length (now plugged) ≡ 16) ⌝ }
     requires { ⌜ Spot (viewOf (now view)) (a .0) at ⌝ }
-    ensures { λ r. ⌜ r ≡ routed (leafAt (entries (viewOf (now (view .entry))))) (pluggedIn block (now (plugged .entry))) (a .0) w ⌝ }
+    ensures { λ r. ⌜ routedBy r ≡ routedIn (now (view .entry)) block (now (plugged .entry)) (a .0) w ⌝ }
 {
     if !width_ok(w) {
         return RouteAnswer::Refused(23);
@@ -144,7 +143,7 @@ fn route_at(
 fn route_judged(view: &[u64], block: u64, plugged: &[u64], a: GuestAddress, w: u64) -> RouteAnswer
     requires { ⌜ Judged (now view) ⌝ }
     requires { ⌜ (8 ≤ block) × (length (now plugged) ≡ 16) ⌝ }
-    ensures { λ r. ⌜ r ≡ routed (leafAt (entries (viewOf (now (view .entry))))) (pluggedIn block (now (plugged .entry))) (a .0) w ⌝ }
+    ensures { λ r. ⌜ routedBy r ≡ routedIn (now (view .entry)) block (now (plugged .entry)) (a .0) w ⌝ }
 {
     let at = near(view, 0, a);
     route_at(view, block, plugged, at, a, w)
@@ -158,7 +157,8 @@ pub fn route(
     address: GuestAddress,
     width: u64,
 ) -> RouteAnswer
-    ensures { λ r. ⌜ r ≡ routedWith (viewOf (now (view .entry))) «memory_length» (deviceOf (now (device .entry))) (address .0) width ⌝ }
+    ensures { λ r. ⌜ routedBy r
+        ≡ routedWith (viewOf (now (view .entry))) «memory_length» (deviceOf (now (device .entry))) (address .0) width ⌝ }
 {
     if device_ok(device) {
         if view_ok(view, memory_length, region_size(device)) {
@@ -175,7 +175,7 @@ pub fn route_without_device(
     address: GuestAddress,
     width: u64,
 ) -> RouteAnswer
-    ensures { λ r. ⌜ r ≡ routedWithout (viewOf (now (view .entry))) «memory_length» (address .0) width ⌝ }
+    ensures { λ r. ⌜ routedBy r ≡ routedWithout (viewOf (now (view .entry))) «memory_length» (address .0) width ⌝ }
 {
     if view_ok(view, memory_length, NO_REGION) {
         let table = [0u64; 16];
@@ -186,7 +186,7 @@ pub fn route_without_device(
 
 // Document 01's number of the refusal, and 0 where the access is routed.
 pub fn number_of(answer: RouteAnswer) -> u64
-    ensures { λ r. ⌜ r ≡ numberOf (routeReply answer) ⌝ }
+    ensures { λ r. ⌜ r ≡ numberOf (routeReply (routedBy answer)) ⌝ }
 {
     match answer {
         RouteAnswer::Refused(n) => n as u64,
@@ -208,7 +208,7 @@ fn put_four(words: &mut [u64], at: usize, a: u64, b: u64, c: u64, d: u64)
 // An answer's four words at the place of access i.
 fn put_answer(answers: &mut [u64], i: usize, answer: RouteAnswer)
     requires { ⌜ 4 * i + 4 ≤ length (now answers) ⌝ }
-    ensures { λ _. ⌜ now (answers .exit) ≡ sets (now (answers .entry)) (4 * i) (answerWords answer) ⌝ }
+    ensures { λ _. ⌜ now (answers .exit) ≡ sets (now (answers .entry)) (4 * i) (answerWords (routedBy answer)) ⌝ }
 {
     let at = 4 * i;
     match answer {
@@ -223,7 +223,8 @@ fn routes_judged(view: &[u64], block: u64, plugged: &[u64], accesses: &[u64], an
     requires { ⌜ Judged (now view) ⌝ }
     requires { ⌜ (8 ≤ block) × (length (now plugged) ≡ 16) ⌝ }
     requires { ⌜ answersFit (now accesses) (now answers) ≡ true ⌝ }
-    ensures { λ _. ⌜ now (answers .exit) ≡ answersTo (routed (leafAt (entries (viewOf (now (view .entry))))) (pluggedIn block (now (plugged .entry)))) (now (accesses .entry)) 0 (length (now (accesses .entry)) / 2) ⌝ }
+    ensures { λ _. ⌜ now (answers .exit)
+        ≡ answersTo (routedIn (now (view .entry)) block (now (plugged .entry))) (now (accesses .entry)) 0 (length (now (accesses .entry)) / 2) ⌝ }
 {
     let count = accesses.len() / 2;
     let mut at: usize = 0;
@@ -253,8 +254,9 @@ pub fn route_all(
     accesses: &[u64],
     answers: &mut [u64],
 ) -> u64
-    ensures { λ r. ⌜ (r ≡ allWith (viewOf (now (view .entry))) «memory_length» (deviceOf (now (device .entry))) (now (accesses .entry)) (now (answers .entry)) .number)
-        × (now (answers .exit) ≡ allWith (viewOf (now (view .entry))) «memory_length» (deviceOf (now (device .entry))) (now (accesses .entry)) (now (answers .entry)) .answers) ⌝ }
+    ensures { λ r. ⌜ RoutesAll
+        (allWith (viewOf (now (view .entry))) «memory_length» (deviceOf (now (device .entry))) (now (accesses .entry)) (now (answers .entry)))
+        r (now (answers .exit)) ⌝ }
 {
     if device_ok(device) {
         let ok = view_ok(view, memory_length, region_size(device));
@@ -273,8 +275,9 @@ pub fn route_all_without_device(
     accesses: &[u64],
     answers: &mut [u64],
 ) -> u64
-    ensures { λ r. ⌜ (r ≡ allWithout (viewOf (now (view .entry))) «memory_length» (now (accesses .entry)) (now (answers .entry)) .number)
-        × (now (answers .exit) ≡ allWithout (viewOf (now (view .entry))) «memory_length» (now (accesses .entry)) (now (answers .entry)) .answers) ⌝ }
+    ensures { λ r. ⌜ RoutesAll
+        (allWithout (viewOf (now (view .entry))) «memory_length» (now (accesses .entry)) (now (answers .entry)))
+        r (now (answers .exit)) ⌝ }
 {
     let ok = view_ok(view, memory_length, NO_REGION);
     if ok & answers_fit(accesses, answers) {

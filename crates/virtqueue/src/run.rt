@@ -1,14 +1,14 @@
 // A run of steps, with the device changed where it lies.
 ghost use mathlib.Core.Path.{_≡_};
-ghost use Prim.Native.Nat.{_≤_, min};
 ghost use Rattle.map_records.specs.Words.{viewOf};
 ghost use Rattle.device_words.specs.Words.{deviceOf};
-ghost use Rattle.virtqueue.specs.Run.{RunLeaves, ran};
+ghost use Rattle.virtqueue.specs.Run.{RunDoes, ran};
 use crate::in_place::records_ok;
 use crate::queue::SplitQueue;
 use crate::serve::step_judged;
 use crate::step::StepOutcome;
 use guest_view::find::near;
+use map_records::numbers::least;
 
 // The most steps of a run.
 const STEPS: u64 = 256;
@@ -28,15 +28,9 @@ pub struct Ran {
     pub queue: SplitQueue,
 }
 
-fn at_most(k: u64, most: u64) -> u64
-    ensures { λ r. ⌜ r ≡ min k most ⌝ }
-{
-    if most < k { most } else { k }
-}
-
 // Up to k steps, at most 256. The records are judged once.
 pub fn run_steps(view: &[u64], device: &mut [u64], queue: SplitQueue, mem: &mut [u8], k: u64) -> Ran
-    ensures { λ r. ⌜ RunLeaves (now (device .entry))
+    ensures { λ r. ⌜ RunDoes (now (device .entry))
         (ran (viewOf (now (view .entry))) (deviceOf (now (device .entry))) queue (now (mem .entry)) k)
         r (now (device .exit)) (now (mem .exit)) ⌝ }
 {
@@ -52,7 +46,7 @@ pub fn run_steps(view: &[u64], device: &mut [u64], queue: SplitQueue, mem: &mut 
     let mut served: u64 = 0;
     let mut notified = false;
     let mut end = RunEnd::AllDone;
-    let most = at_most(k, STEPS);
+    let most = least(k, STEPS);
     let hint = near(view, 0, queue.available);
     while served < most {
         let s = step_judged(view, device, queue_now, mem, hint);

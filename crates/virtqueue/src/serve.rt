@@ -4,14 +4,13 @@ ghost use mathlib.Core.Bool.{true};
 ghost use Prim.Native.Nat.{_<_};
 ghost use lib.ListN.{length};
 ghost use Rattle.device_words.specs.Device.{Sized, deviceOk};
-ghost use Rattle.guest_view.specs.Guest.{byView};
 ghost use Rattle.map_records.specs.Words.{viewOf};
 ghost use Rattle.guest_view.specs.Contracts.{Judged, Backed, Within, placeIn};
 ghost use Rattle.device_words.specs.Words.{deviceOf, deviceWords};
 ghost use Rattle.virtqueue.specs.Queue.{queueOk, stoppedBy, advanced as advancedQueue};
-ghost use Rattle.virtqueue.specs.Step.{usedPlaces, usedBytes, carrying, servedMemory, steppedBy};
-ghost use Rattle.virtqueue.specs.Moved.{Leaves};
-ghost use Rattle.virtqueue.specs.Contracts.{UsedIn};
+ghost use Rattle.virtqueue.specs.Step.{usedPlaces, usedBytes, carrying, servedMemory};
+ghost use Rattle.virtqueue.specs.Does.{DoesIn};
+ghost use Rattle.virtqueue.specs.Contracts.{UsedIn, steppedIn};
 use crate::queue::SplitQueue;
 use crate::ring::used_entry;
 use crate::ring::used_idx;
@@ -105,9 +104,8 @@ pub fn step_judged(
     requires { ⌜ Backed (viewOf (now view)) (length (now mem)) ⌝ }
     requires { ⌜ (length (now device) ≡ 37) × (deviceOk (deviceOf (now device)) ≡ true) ⌝ }
     requires { ⌜ queueOk queue ≡ true ⌝ }
-    ensures { λ r. ⌜ Leaves
-        (steppedBy (byView (viewOf (now (view .entry))) (deviceOf (now (device .entry))))
-        (deviceOf (now (device .entry))) queue (now (mem .entry)))
+    ensures { λ r. ⌜ DoesIn (now (device .entry))
+        (steppedIn (now (view .entry)) (now (device .entry)) queue (now (mem .entry)))
         r (now (device .exit)) (now (mem .exit)) ⌝ }
 {
     let mut request = [0u8; 24];

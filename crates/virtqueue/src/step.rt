@@ -4,7 +4,7 @@ ghost use Rattle.region_map.specs.Reply.{numberOf};
 ghost use Rattle.map_records.specs.Words.{viewOf};
 ghost use Rattle.memory_device.specs.Record.{recordOf};
 ghost use Rattle.virtqueue.specs.Step.{stepped, stepReply};
-ghost use Rattle.virtqueue.specs.ByValue.{steppedOf};
+ghost use Rattle.virtqueue.specs.Does.{answerOf, Does};
 use crate::in_place::step_in_place;
 use crate::queue::SplitQueue;
 use memory_device::device::MemoryDevice;
@@ -34,8 +34,7 @@ pub struct Stepped {
 
 // Takes the next chain, if there is one, carries its request out and returns it.
 pub fn step(view: &[u64], device: MemoryDevice, queue: SplitQueue, mem: &mut [u8]) -> Stepped
-    ensures { λ r. ⌜ (r ≡ steppedOf (stepped (viewOf (now (view .entry))) (recordOf device) queue (now (mem .entry)) .result))
-        × (now (mem .exit) ≡ stepped (viewOf (now (view .entry))) (recordOf device) queue (now (mem .entry)) .memory) ⌝ }
+    ensures { λ r. ⌜ Does (stepped (viewOf (now (view .entry))) (recordOf device) queue (now (mem .entry))) r (now (mem .exit)) ⌝ }
 {
     let mut words = words_of(device);
     let moved = step_in_place(view, &mut words, queue, mem);
@@ -51,7 +50,7 @@ pub fn step(view: &[u64], device: MemoryDevice, queue: SplitQueue, mem: &mut [u8
 
 // Document 01's number of the refusal, and 0 where nothing is refused.
 pub fn number_of(outcome: StepOutcome) -> u64
-    ensures { λ r. ⌜ r ≡ numberOf (stepReply outcome) ⌝ }
+    ensures { λ r. ⌜ r ≡ numberOf (stepReply (answerOf outcome)) ⌝ }
 {
     match outcome {
         StepOutcome::Refused(n) => n as u64,

@@ -3,11 +3,10 @@ ghost use mathlib.Core.Path.{_≡_};
 ghost use mathlib.Core.Bool.{true};
 ghost use Prim.Native.Nat.{_<_};
 ghost use lib.ListN.{length};
-ghost use Rattle.map_records.specs.Words.{viewOf};
-ghost use Rattle.guest_view.specs.Contracts.{Judged, Backed};
+ghost use Rattle.guest_view.specs.Contracts.{Judged};
 ghost use Rattle.virtqueue.specs.Queue.{queueOk};
-ghost use Rattle.virtqueue.specs.Step.{noticesOf, headOf, chainOf, usedReached, offerChain, offered};
-ghost use Rattle.virtqueue.specs.Contracts.{guestIn, Takes, shapeFrom};
+ghost use Rattle.virtqueue.specs.Step.{usedReached};
+ghost use Rattle.virtqueue.specs.Contracts.{guestIn, Lent, Buffers, noticesOf, headOf, TakesChain, TakesAll, shapeFrom};
 use crate::chain::Gathered;
 use crate::chain::gather;
 use crate::queue::SplitQueue;
@@ -48,9 +47,7 @@ fn notices(
     mem: &[u8],
     hint: usize,
 ) -> AvailableNotices
-    requires { ⌜ Judged (now view) ⌝ }
-    requires { ⌜ Backed (viewOf (now view)) (length (now mem)) ⌝ }
-    requires { ⌜ (0 < block) × (length (now plugged) ≡ 16) ⌝ }
+    requires { ⌜ Lent (now view) (now mem) block (now plugged) ⌝ }
     requires { ⌜ queueOk queue ≡ true ⌝ }
     ensures { λ r. ⌜ r ≡ noticesOf (guestIn (now (view .entry)) block (now (plugged .entry))) (now (mem .entry)) queue ⌝ }
 {
@@ -79,9 +76,7 @@ fn head(
     mem: &[u8],
     hint: usize,
 ) -> HeadEntry
-    requires { ⌜ Judged (now view) ⌝ }
-    requires { ⌜ Backed (viewOf (now view)) (length (now mem)) ⌝ }
-    requires { ⌜ (0 < block) × (length (now plugged) ≡ 16) ⌝ }
+    requires { ⌜ Lent (now view) (now mem) block (now plugged) ⌝ }
     requires { ⌜ queueOk queue ≡ true ⌝ }
     ensures { λ r. ⌜ r ≡ headOf (guestIn (now (view .entry)) block (now (plugged .entry))) (now (mem .entry)) queue ⌝ }
 {
@@ -134,16 +129,12 @@ fn take_chain(
     request: &mut [u8],
     places: &mut [usize],
 ) -> TakenOffer
-    requires { ⌜ Judged (now view) ⌝ }
-    requires { ⌜ Backed (viewOf (now view)) (length (now mem)) ⌝ }
-    requires { ⌜ (0 < block) × (length (now plugged) ≡ 16) ⌝ }
+    requires { ⌜ Lent (now view) (now mem) block (now plugged) ⌝ }
     requires { ⌜ queueOk queue ≡ true ⌝ }
     requires { ⌜ head < queue .size ⌝ }
-    requires { ⌜ (length (now request) ≡ 24) × (length (now places) ≡ 10) ⌝ }
-    ensures { λ r. ⌜ Takes (guestIn (now (view .entry)) block (now (plugged .entry))) (now (mem .entry))
-        (offerChain (guestIn (now (view .entry)) block (now (plugged .entry))) queue head notify
-        (chainOf (guestIn (now (view .entry)) block (now (plugged .entry))) (now (mem .entry)) queue head))
-        r (now (request .exit)) (now (places .exit)) ⌝ }
+    requires { ⌜ Buffers (now request) (now places) ⌝ }
+    ensures { λ r. ⌜ TakesChain (now (view .entry)) (now (mem .entry)) block (now (plugged .entry)) queue head notify r
+        (now (request .exit)) (now (places .exit)) ⌝ }
 {
     let table = queue.descriptors;
     let size = queue.size as u64;
@@ -180,14 +171,11 @@ pub fn take(
     request: &mut [u8],
     places: &mut [usize],
 ) -> TakenOffer
-    requires { ⌜ Judged (now view) ⌝ }
-    requires { ⌜ Backed (viewOf (now view)) (length (now mem)) ⌝ }
-    requires { ⌜ (0 < block) × (length (now plugged) ≡ 16) ⌝ }
+    requires { ⌜ Lent (now view) (now mem) block (now plugged) ⌝ }
     requires { ⌜ queueOk queue ≡ true ⌝ }
-    requires { ⌜ (length (now request) ≡ 24) × (length (now places) ≡ 10) ⌝ }
-    ensures { λ r. ⌜ Takes (guestIn (now (view .entry)) block (now (plugged .entry))) (now (mem .entry))
-        (offered (guestIn (now (view .entry)) block (now (plugged .entry))) (now (mem .entry)) queue)
-        r (now (request .exit)) (now (places .exit)) ⌝ }
+    requires { ⌜ Buffers (now request) (now places) ⌝ }
+    ensures { λ r. ⌜ TakesAll (now (view .entry)) (now (mem .entry)) block (now (plugged .entry)) queue r
+        (now (request .exit)) (now (places .exit)) ⌝ }
 {
     let stop = queue.stop;
     if stop != 0 {

@@ -3,8 +3,7 @@ ghost use mathlib.Core.Path.{_≡_};
 ghost use Rattle.map_records.specs.Words.{viewOf};
 ghost use Rattle.memory_device.specs.Record.{recordOf};
 ghost use Rattle.virtqueue.specs.Step.{stepped};
-ghost use Rattle.virtqueue.specs.ByValue.{steppedOf};
-ghost use Rattle.virtqueue.specs.Thin.{told};
+ghost use Rattle.virtqueue.specs.Does.{Advances};
 use crate::queue::SplitQueue;
 use crate::step::StepOutcome;
 use crate::step::step;
@@ -23,9 +22,8 @@ pub fn advance(
     view: &[u64],
     device: MemoryDevice,
 ) -> Advanced
-    ensures { λ r. ⌜ (r ≡ told (steppedOf (stepped (viewOf (now (view .entry))) (recordOf device) (now (queue .entry)) (now (mem .entry)) .result)))
-        × (now (mem .exit) ≡ stepped (viewOf (now (view .entry))) (recordOf device) (now (queue .entry)) (now (mem .entry)) .memory)
-        × (now (queue .exit) ≡ stepped (viewOf (now (view .entry))) (recordOf device) (now (queue .entry)) (now (mem .entry)) .result .queue) ⌝ }
+    ensures { λ r. ⌜ Advances (stepped (viewOf (now (view .entry))) (recordOf device) (now (queue .entry)) (now (mem .entry))) r
+        (now (queue .exit)) (now (mem .exit)) ⌝ }
 {
     let s = step(view, device, *queue, mem);
     *queue = s.queue;

@@ -1,7 +1,7 @@
 // A given flat view: what its list gives an address.
 ghost use mathlib.Core.Path.{_≡_};
 ghost use Rattle.map_records.specs.Words.{viewOf};
-ghost use Rattle.virtqueue.specs.Look.{lookedUp};
+ghost use Rattle.virtqueue.specs.Look.{lookedUp, lookedBy};
 use guest_view::find::near;
 use guest_view::place::offset_in;
 use guest_view::rules::view_ok;
@@ -22,7 +22,7 @@ pub const NO_REGION: u64 = 281474976710656;
 
 // What the view gives an address, by halving.
 pub fn look_up(view: &[u64], memory_length: u64, address: GuestAddress) -> LookUp
-    ensures { λ r. ⌜ r ≡ lookedUp (viewOf (now (view .entry))) «memory_length» (address .0) ⌝ }
+    ensures { λ r. ⌜ lookedBy r ≡ lookedUp (viewOf (now (view .entry))) «memory_length» (address .0) ⌝ }
 {
     if view_ok(view, memory_length, NO_REGION) {
         let at = near(view, 256, address);

@@ -13,10 +13,10 @@ use Rattle.region_map.specs.Flatten.{isView}
 use Rattle.region_map.proofs.Bools.{and-fst, and-snd}
 use Rattle.device_words.specs.Device.{MemoryDevice}
 use Rattle.device_words.specs.Words.{isDevice, deviceOf, deviceWords}
-use Rattle.virtqueue.specs.Queue.{sizeOk, areasOk, made, queueReply}
-use Rattle.virtqueue.specs.Step.{stepped}
-use Rattle.virtqueue.specs.Moved.{moved, laid}
-use Rattle.virtqueue.specs.Run.{ran}
+use Rattle.virtqueue.specs.Queue.{sizeOk, areasOk, made, queueReply, givenBy}
+use Rattle.virtqueue.specs.Step.{Answer, stepped}
+use Rattle.virtqueue.specs.Does.{answerOf, laid, DoesIn}
+use Rattle.virtqueue.specs.Run.{End, endOf, ran, RunDoes}
 use Rattle.virtqueue.specs.declared.queue.SplitQueue.{SplitQueue}
 use Rattle.virtqueue.specs.declared.queue.QueueAnswer.{QueueAnswer}
 use Rattle.virtqueue.specs.declared.queue.QueueAnswer.the-variants as answer
@@ -27,7 +27,7 @@ use Rattle.virtqueue.proofs.QueueLaws.{size-bounds}
 use Rattle.wicktumble.specs.Result.{Told, Tells, isResult}
 use Rattle.wicktumble.specs.Devices.{Changed, Changes}
 use Rattle.wicktumble.specs.Queues.{queueFits, QueueWidths, queueOf, queueWords, gives, Left, Leaves, recordsFit}
-use Rattle.wicktumble.specs.Queues.{outcomeTold, steps, stepCall, endTold, runs, runCall}
+use Rattle.wicktumble.specs.Queues.{stepTold, steps, stepCall, runTold, runs, runCall}
 use Rattle.wicktumble.proofs.CallLaws.{taken, refused, result-fits, told-as}
 
 -- ---- the test of the lengths and widths
@@ -77,12 +77,12 @@ queue-zero answer.Queue = refl
 queue-zero answer.Record = refl
 
 module _ (g : QueueGiven) (w : List ℕ) {n : ℕ} (e : n ≡ numberOf (queueReply (g .answer))) where
-  pub given-put : {w' : List ℕ} → n ≡ 0 → w' ≡ queueWords (g .queue) → Changes (gives g w) n w'
+  pub given-put : {w' : List ℕ} → n ≡ 0 → w' ≡ queueWords (g .queue) → Changes (gives (givenBy g) w) n w'
   given-put z q =
       let p : passes (queueReply (g .answer)) ≡ true = sym (queue-zero (g .answer)) ∙ eq-eqb _ 0 (sym e ∙ z) in
       (e, rw p q)
 
-  pub given-kept : (n ≡ 0 → ⊥) → Changes (gives g w) n w
+  pub given-kept : (n ≡ 0 → ⊥) → Changes (gives (givenBy g) w) n w
   given-kept z =
       let p : passes (queueReply (g .answer)) ≡ false = sym (queue-zero (g .answer)) ∙ ne-eqb _ 0 (λ h. z (e ∙ h)) in
       (e, rw p)
@@ -117,17 +117,16 @@ laid-in : (d : List ℕ) (y : MemoryDevice) → isDevice d ≡ true → laid d y
 laid-in d y f = rw f
 
 module _ (v d q m x : List ℕ) {b : Bool} (e : b ≡ recordsFit v d q x) where
-  pub step-left : {y : SplitQueue} {r : Moved} {c : Told} {n : ℕ} {d' q' m' x' : List ℕ} → b ≡ true → y ≡ queueOf q
-      → (r ≡ moved (stepped (viewOf v) (deviceOf d) y m .result))
-      × (d' ≡ laid d (stepped (viewOf v) (deviceOf d) y m .result .device)) × (m' ≡ stepped (viewOf v) (deviceOf d) y m .memory)
-      → q' ≡ queueWords (r .queue) → c ≡ outcomeTold (r .outcome) → Tells c n x' → Leaves (stepCall v d q m x) n d' q' m' x'
+  pub step-left : {y : SplitQueue} (r : Moved) {c : Told} {n : ℕ} {d' q' m' x' : List ℕ} → b ≡ true → y ≡ queueOf q
+      → DoesIn d (stepped (viewOf v) (deviceOf d) y m) r d' m'
+      → q' ≡ queueWords (r .queue) → c ≡ stepTold (answerOf (r .outcome)) → Tells c n x' → Leaves (stepCall v d q m x) n d' q' m' x'
   unfolding stepCall
-  step-left {y = y} t ey (er, ed, em) eq ec told =
+  step-left {y = y} r t ey (ea, er, ed, em) eq ec told =
       left-as {c = steps (stepped (viewOf v) (deviceOf d) y m)} (
         ed ∙ laid-in d _ (fits v d q x e t .device),
-        eq ∙ ap (λ (z : Moved). queueWords (z .queue)) er,
+        eq ∙ ap queueWords er,
         em,
-        told-as told (ec ∙ ap (λ (z : Moved). outcomeTold (z .outcome)) er),
+        told-as told (ec ∙ ap (λ (z : Answer). stepTold z) ea),
       )
       (ap (λ (z : SplitQueue). steps (stepped (viewOf v) (deviceOf d) z m)) ey ∙ taken _ _ (sym e ∙ t))
 
@@ -135,18 +134,17 @@ module _ (v d q m x : List ℕ) {b : Bool} (e : b ≡ recordsFit v d q x) where
   unfolding stepCall
   step-refused t = left-as (refl, refl, refl, (refl, refl)) (refused _ _ (sym e ∙ t))
 
-  pub run-left : (k : ℕ) {y : SplitQueue} {r : Ran} {c : Told} {n : ℕ} {d' q' m' x' : List ℕ} → b ≡ true → y ≡ queueOf q
-      → (r ≡ ran (viewOf v) (deviceOf d) y m k .result)
-      × (d' ≡ laid d (ran (viewOf v) (deviceOf d) y m k .device)) × (m' ≡ ran (viewOf v) (deviceOf d) y m k .memory)
-      → q' ≡ queueWords (r .queue) → c ≡ endTold (r .served) (r .notified) (r .end) → Tells c n x'
+  pub run-left : (k : ℕ) {y : SplitQueue} (r : Ran) {c : Told} {n : ℕ} {d' q' m' x' : List ℕ} → b ≡ true → y ≡ queueOf q
+      → RunDoes d (ran (viewOf v) (deviceOf d) y m k) r d' m'
+      → q' ≡ queueWords (r .queue) → c ≡ runTold (r .served) (r .notified) (endOf (r .end)) → Tells c n x'
       → Leaves (runCall v d q m k x) n d' q' m' x'
   unfolding runCall
-  run-left k {y = y} t ey (er, ed, em) eq ec told =
+  run-left k {y = y} r t ey (es, en, ee, er, ed, em) eq ec told =
       left-as {c = runs (ran (viewOf v) (deviceOf d) y m k)} (
         ed ∙ laid-in d _ (fits v d q x e t .device),
-        eq ∙ ap (λ (z : Ran). queueWords (z .queue)) er,
+        eq ∙ ap queueWords er,
         em,
-        told-as told (ec ∙ ap (λ (z : Ran). endTold (z .served) (z .notified) (z .end)) er),
+        told-as told (ec ∙ (λ i. runTold (es i) (en i) (ee i))),
       )
       (ap (λ (z : SplitQueue). runs (ran (viewOf v) (deviceOf d) z m k)) ey ∙ taken _ _ (sym e ∙ t))
 

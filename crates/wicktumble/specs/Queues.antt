@@ -9,15 +9,13 @@ use Rattle.map_records.specs.Words.{viewOf}
 use Rattle.region_map.specs.Reply.{numberOf, passes}
 use Rattle.region_map.specs.Flatten.{isView}
 use Rattle.device_words.specs.Words.{isDevice, deviceOf, deviceWords}
-use Rattle.virtqueue.specs.Queue.{made, wasReset, queueReply}
-use Rattle.virtqueue.specs.Step.{Effect, stepped}
-use Rattle.virtqueue.specs.Run.{RunEffect, ran}
+use Rattle.device_words.specs.Device.{MemoryDevice}
+use Rattle.virtqueue.specs.Queue.{Given, made, wasReset}
+use Rattle.virtqueue.specs.Step.{Answer, Effect, stepReply, stepped}
+use Rattle.virtqueue.specs.Step as step
+use Rattle.virtqueue.specs.Run.{End, RunEffect, endReply, ran}
+use Rattle.virtqueue.specs.Run as run
 use Rattle.virtqueue.specs.declared.queue.SplitQueue.{SplitQueue}
-use Rattle.virtqueue.specs.declared.queue.QueueGiven.{QueueGiven}
-use Rattle.virtqueue.specs.declared.step.StepOutcome.{StepOutcome}
-use Rattle.virtqueue.specs.declared.step.StepOutcome.the-variants as outcome
-use Rattle.virtqueue.specs.declared.run.RunEnd.{RunEnd}
-use Rattle.virtqueue.specs.declared.run.RunEnd.the-variants as end
 use Rattle.wicktumble.specs.Result.{Told, Tells, told, untold, isResult}
 use Rattle.wicktumble.specs.Devices.{Changed}
 
@@ -57,8 +55,8 @@ queueWords q =
 
 -- ---- making and reset: the words of the queue that is given, or on a refusal those that were there
 
-abbrev pub gives : QueueGiven → List ℕ → Changed
-gives g w = record { number = numberOf (queueReply (g .answer)); words = cond (passes (queueReply (g .answer))) (queueWords (g .queue)) w }
+abbrev pub gives : Given → List ℕ → Changed
+gives g w = record { number = numberOf (g .reply); words = cond (passes (g .reply)) (queueWords (g .queue)) w }
 
 abbrev pub ungiven : List ℕ → Changed
 ungiven w = record { number = 27; words = w }
@@ -91,40 +89,40 @@ recordsFit view device queue result = isView view && (isDevice device && (queueF
 abbrev pub flag : Bool → ℕ
 flag b = cond b 1 0
 
--- served, notify
-abbrev pub outcomeTold : StepOutcome → Told
-outcomeTold (outcome.Refused n) = told n 0 0 0
-outcomeTold outcome.Idle = told 0 0 0 0
-outcomeTold (outcome.Served notify) = told 0 1 (flag notify) 0
+-- the number, and then 1 where a chain was served, and 1 where the guest is to be notified
+abbrev pub servedOne : Answer → ℕ
+servedOne (step.refused n) = 0
+servedOne step.idle = 0
+servedOne (step.served notify) = 1
 
-abbrev pub steps : Effect → Left
-steps e =
-    record {
-      device = deviceWords (e .result .device);
-      queue = queueWords (e .result .queue);
-      memory = e .memory;
-      told = outcomeTold (e .result .outcome);
-    }
+abbrev pub notifiedOne : Answer → ℕ
+notifiedOne (step.refused n) = 0
+notifiedOne step.idle = 0
+notifiedOne (step.served notify) = flag notify
+
+abbrev pub stepTold : Answer → Told
+stepTold a = told (numberOf (stepReply a)) (servedOne a) (notifiedOne a) 0
+
+abbrev pub steps : Effect MemoryDevice → Left
+steps e = record { device = deviceWords (e .device); queue = queueWords (e .queue); memory = e .memory; told = stepTold (e .answer) }
 
 unfoldable pub stepCall : List ℕ → List ℕ → List ℕ → List ℕ → List ℕ → Left
 stepCall view device queue memory result =
     cond (recordsFit view device queue result) (steps (stepped (viewOf view) (deviceOf device) (queueOf queue) memory))
     (unmoved device queue memory result)
 
--- steps served, whether one notified, whether the end was idle
-abbrev pub endTold : ℕ → Bool → RunEnd → Told
-endTold served notified end.AllDone = told 0 served (flag notified) 0
-endTold served notified end.Idle = told 0 served (flag notified) 1
-endTold served notified (end.Refused n) = told n served (flag notified) 0
+-- the number, steps served, whether one notified, whether the end was idle
+abbrev pub idleEnd : End → ℕ
+idleEnd run.allDone = 0
+idleEnd run.idle = 1
+idleEnd (run.refusedBy n) = 0
+
+abbrev pub runTold : ℕ → Bool → End → Told
+runTold served notified e = told (numberOf (endReply e)) served (flag notified) (idleEnd e)
 
 abbrev pub runs : RunEffect → Left
 runs e =
-    record {
-      device = deviceWords (e .device);
-      queue = queueWords (e .result .queue);
-      memory = e .memory;
-      told = endTold (e .result .served) (e .result .notified) (e .result .end);
-    }
+    record { device = deviceWords (e .device); queue = queueWords (e .queue); memory = e .memory; told = runTold (e .served) (e .notified) (e .end) }
 
 unfoldable pub runCall : List ℕ → List ℕ → List ℕ → List ℕ → ℕ → List ℕ → Left
 runCall view device queue memory k result =

@@ -4,7 +4,10 @@ ghost use lib.ListN.{length};
 ghost use Rattle.wicktumble.specs.Result.{toldBy};
 ghost use Rattle.wicktumble.specs.Devices.{Changes};
 ghost use Rattle.wicktumble.specs.Queues.{gives, makeCall, resetQueueCall, recordsFit, flag};
-ghost use Rattle.wicktumble.specs.Queues.{Leaves, outcomeTold, stepCall, endTold, runCall};
+ghost use Rattle.wicktumble.specs.Queues.{Leaves, stepTold, stepCall, runTold, runCall};
+ghost use Rattle.virtqueue.specs.Queue.{givenBy};
+ghost use Rattle.virtqueue.specs.Does.{answerOf};
+ghost use Rattle.virtqueue.specs.Run.{endOf};
 use crate::queue_words::put_queue;
 use crate::queue_words::queue_fits;
 use crate::queue_words::queue_of;
@@ -23,7 +26,7 @@ use virtqueue::step::StepOutcome;
 // A queue that was made or reset into its words, or nothing on a refusal; gives the number.
 fn put_given(queue: &mut [u64], given: QueueGiven) -> u64
     requires { ⌜ length (now queue) ≡ 7 ⌝ }
-    ensures { λ r. ⌜ Changes (gives given (now (queue .entry))) r (now (queue .exit)) ⌝ }
+    ensures { λ r. ⌜ Changes (gives (givenBy given) (now (queue .entry))) r (now (queue .exit)) ⌝ }
 {
     let answer = given.answer;
     let number = queue::number_of(answer);
@@ -85,7 +88,7 @@ fn flag(b: bool) -> u64
 }
 
 fn say_step(outcome: StepOutcome) -> Said
-    ensures { λ r. ⌜ toldBy r ≡ outcomeTold outcome ⌝ }
+    ensures { λ r. ⌜ toldBy r ≡ stepTold (answerOf outcome) ⌝ }
 {
     match outcome {
         StepOutcome::Refused(n) => say(n as u64, 0, 0, 0),
@@ -116,7 +119,7 @@ pub extern "C" fn wt_step(
 }
 
 fn say_run(served: u64, notified: bool, end: RunEnd) -> Said
-    ensures { λ r. ⌜ toldBy r ≡ endTold served notified end ⌝ }
+    ensures { λ r. ⌜ toldBy r ≡ runTold served notified (endOf end) ⌝ }
 {
     let notify = flag(notified);
     match end {

@@ -1,7 +1,10 @@
 // Routing of accesses, and what a view gives an address.
 ghost use mathlib.Core.Path.{_≡_};
 ghost use Rattle.wicktumble.specs.Result.{Tells, toldBy};
-ghost use Rattle.wicktumble.specs.Routes.{routeTold, routeBy, routeCall, RoutesAll, routeAllCall, lookUpTold, lookUpCall};
+ghost use Rattle.virtqueue.specs.Look.{lookedBy};
+ghost use Rattle.virtqueue.specs.Route.{routedBy, RoutesAll};
+ghost use Rattle.wicktumble.specs.Maps.{ledTo};
+ghost use Rattle.wicktumble.specs.Routes.{routeTold, routeBy, routeCall, routeAllCall, lookUpCall};
 use crate::result::Said;
 use crate::result::say;
 use crate::result::tell;
@@ -12,7 +15,7 @@ use virtqueue::view::LookUp;
 use virtqueue::view::look_up;
 
 fn say_route(answer: RouteAnswer) -> Said
-    ensures { λ r. ⌜ toldBy r ≡ routeTold answer ⌝ }
+    ensures { λ r. ⌜ toldBy r ≡ routeTold (routedBy answer) ⌝ }
 {
     match answer {
         RouteAnswer::Refused(n) => say(n as u64, 0, 0, 0),
@@ -29,7 +32,7 @@ fn route_by(
     address: u64,
     width: u64,
 ) -> RouteAnswer
-    ensures { λ r. ⌜ r ≡ routeBy (now (view .entry)) «memory_length» (now (device .entry)) address width ⌝ }
+    ensures { λ r. ⌜ routedBy r ≡ routeBy (now (view .entry)) «memory_length» (now (device .entry)) address width ⌝ }
 {
     let a = GuestAddress(address);
     if device.len() == 0 {
@@ -66,7 +69,8 @@ pub extern "C" fn wt_route_all(
     accesses: &[u64],
     answers: &mut [u64],
 ) -> u64
-    ensures { λ r. ⌜ RoutesAll (routeAllCall (now (view .entry)) «memory_length» (now (device .entry)) (now (accesses .entry)) (now (answers .entry)))
+    ensures { λ r. ⌜ RoutesAll
+        (routeAllCall (now (view .entry)) «memory_length» (now (device .entry)) (now (accesses .entry)) (now (answers .entry)))
         r (now (answers .exit)) ⌝ }
 {
     if device.len() == 0 {
@@ -76,7 +80,7 @@ pub extern "C" fn wt_route_all(
 }
 
 fn say_look_up(found: LookUp) -> Said
-    ensures { λ r. ⌜ toldBy r ≡ lookUpTold found ⌝ }
+    ensures { λ r. ⌜ toldBy r ≡ ledTo (lookedBy found) ⌝ }
 {
     match found {
         LookUp::At(region, offset) => say(0, 1, region as u64, offset.0),

@@ -18,11 +18,11 @@ use Rattle.virtqueue.proofs.chain.add_element.Tie as tie
 is-writable-requires : tie.Need-is-writable-requires
 is-writable-requires c κs = search needs
 
-sub-smaller : tie.Need-sub-smaller
-sub-smaller c = search needs
+sub-fitting : tie.Need-sub-fitting
+sub-fitting c = search needs
 
-smaller-requires : tie.Need-smaller-requires
-smaller-requires c κs = search needs
+fitting-requires : tie.Need-fitting-requires
+fitting-requires c κs = search needs
 
 add-end : tie.Need-add-end
 add-end c = search needs
@@ -42,8 +42,8 @@ part-find-places-end c = search needs
 find-places-requires : tie.Need-find-places-requires
 find-places-requires c κs = let s = c .before .before .before .before .before .before .before .before in
     let w = s .args .so-far .writable in
-    let n = c .before .smaller .result in
-    (s .pre .0, memory-front (viewOf (s .args .view .now)) (s .args .d .addr .0) (s .args .d .length) _ (s .pre .1 .1 .0) (omega (arith, c .before .smaller .ensures, length-take (w + n - w) (drop w (s .args .places .now)))))
+    let n = c .before .fitting .result in
+    (s .pre .0, memory-front (viewOf (s .args .view .now)) (s .args .d .addr .0) (s .args .d .length) _ (s .pre .1 .1 .0) (omega (arith, c .before .fitting .ensures, length-take (w + n - w) (drop w (s .args .places .now)))))
 
 same-length : tie.Need-same-length
 same-length c = search needs
@@ -52,20 +52,20 @@ returns : tie.Need-returns
 returns c = let s = c .before .before .before .before .before .before .before .before .before .before .before in
     let a = s .args in
     let w = a .so-far .writable in
-    let n = c .before .before .before .before .smaller .result in
+    let n = c .before .before .before .before .fitting .result in
     let f = s .pre .1 .1 .1 in
-    let e = c .before .before .before .before .smaller .ensures in (
+    let e = c .before .before .before .before .fitting .ensures in (
       ap (λ (z : List ℕ). gotOf (record { stop = 0; readable = a .so-far .readable; writable = w + n; late = true }) (a .request .now) z)
           (stretch-stored (placeIn (viewOf (a .view .now))) (a .places .now) _ (a .d .addr .0) w (w + n - w) n (omega arith) (omega (arith, e, f .«few-written», f .«all-written»)) (c .before .before .find-places .ensures))
           ∙ added-written (placeIn (viewOf (a .view .now))) (a .mem .now) (gotOf (a .so-far) (a .request .now) (a .places .now)) (a .d) (sym (c .before .before .before .before .before .before .is-writable .ensures) ∙ c .before .before .before .before .before .if1 .taken) n e,
       refl,
     )
 
-sub-smaller-2 : tie.Need-sub-smaller-2
-sub-smaller-2 c = search needs
+sub-fitting-2 : tie.Need-sub-fitting-2
+sub-fitting-2 c = search needs
 
-smaller-requires-2 : tie.Need-smaller-requires-2
-smaller-requires-2 c κs = search needs
+fitting-requires-2 : tie.Need-fitting-requires-2
+fitting-requires-2 c κs = search needs
 
 add-end-2 : tie.Need-add-end-2
 add-end-2 c = search needs
@@ -82,8 +82,8 @@ part-read-bytes-end c = search needs
 read-bytes-requires : tie.Need-read-bytes-requires
 read-bytes-requires c κs = let s = c .before .before .before .before .before .before .before .before in
     let w = s .args .so-far .readable in
-    let n = c .before .smaller2 .result in
-    (s .pre .0, (s .pre .1 .0, memory-front (viewOf (s .args .view .now)) (s .args .d .addr .0) (s .args .d .length) _ (s .pre .1 .1 .0) (omega (arith, c .before .smaller2 .ensures, length-take (w + n - w) (drop w (s .args .request .now))))))
+    let n = c .before .fitting2 .result in
+    (s .pre .0, (s .pre .1 .0, memory-front (viewOf (s .args .view .now)) (s .args .d .addr .0) (s .args .d .length) _ (s .pre .1 .1 .0) (omega (arith, c .before .fitting2 .ensures, length-take (w + n - w) (drop w (s .args .request .now))))))
 
 same-length-2 : tie.Need-same-length-2
 same-length-2 c = search needs
@@ -92,9 +92,9 @@ returns-2 : tie.Need-returns-2
 returns-2 c = let s = c .before .before .before .before .before .before .before .before .before .before .before in
     let a = s .args in
     let w = a .so-far .readable in
-    let n = c .before .before .before .before .smaller2 .result in
+    let n = c .before .before .before .before .fitting2 .result in
     let f = s .pre .1 .1 .1 in
-    let e = c .before .before .before .before .smaller2 .ensures in (
+    let e = c .before .before .before .before .fitting2 .ensures in (
       ap (λ (z : List ℕ). gotOf (record { stop = 0; readable = w + n; writable = a .so-far .writable; late = false }) z (a .places .now))
           (stretch-stored (byteAt (placeIn (viewOf (a .view .now))) (a .mem .now)) (a .request .now) _ (a .d .addr .0) w (w + n - w) n (omega arith) (omega (arith, e, f .«few-read», f .«all-read»)) (c .before .before .read-bytes .ensures))
           ∙ added-read (placeIn (viewOf (a .view .now))) (a .mem .now) (gotOf (a .so-far) (a .request .now) (a .places .now)) (a .d) (sym (c .before .before .before .before .before .before .is-writable .ensures) ∙ c .before .before .before .before .before .if1 .left) n e,
@@ -106,8 +106,8 @@ add-element-spec =
     tie.close
     (tie.spec
     is-writable-requires
-    sub-smaller
-    smaller-requires
+    sub-fitting
+    fitting-requires
     add-end
     mul-find-places
     sub-find-places
@@ -116,8 +116,8 @@ add-element-spec =
     find-places-requires
     same-length
     returns
-    sub-smaller-2
-    smaller-requires-2
+    sub-fitting-2
+    fitting-requires-2
     add-end-2
     sub-read-bytes
     part-read-bytes-start

@@ -15,10 +15,10 @@ add-t11 : tie.Need-add-t11
 add-t11 c = search needs
 
 reaches-requires : tie.Need-reaches-requires
-reaches-requires c κs = search needs
+reaches-requires c κs = let s = c .before .before .before .before in (s .pre .0 .judged, (s .pre .0 .some, s .pre .0 .table))
 
 descriptor-at-requires : tie.Need-descriptor-at-requires
-descriptor-at-requires c κs = let s = c .before .before .before .before .before .before in (s .pre .0, (s .pre .1 .0, all-memory (viewOf (s .args .view .now)) (s .args .block) (s .args .plugged .now) (s .args .table .0 + 16 * s .args .i) 16 (sym (c .before .reaches .ensures) ∙ c .if1 .taken)))
+descriptor-at-requires c κs = let s = c .before .before .before .before .before .before in (s .pre .0 .judged, (s .pre .0 .backed, all-memory (viewOf (s .args .view .now)) (s .args .block) (s .args .plugged .now) (s .args .table .0 + 16 * s .args .i) 16 (sym (c .before .reaches .ensures) ∙ c .if1 .taken)))
 
 returns : tie.Need-returns
 unfolding fetched

@@ -7,10 +7,9 @@ use borrow.Author.Tests.{not-true, not-false}
 use Rattle.map_records.specs.Words.{viewOf}
 use Rattle.guest_view.specs.Guest.{Guest, viewGuest}
 use Rattle.guest_view.specs.Contracts.{placeIn}
+use Rattle.virtqueue.specs.Chain as chains
 use Rattle.virtqueue.specs.Chain.{Chain, whole, ended, element, nextBelow, isWritable, fetched, reached, follow, chainAt}
-use Rattle.virtqueue.specs.Contracts.{Got, gotOf, stopAt}
-use Rattle.virtqueue.specs.declared.chain.Fetched.{Fetched}
-use Rattle.virtqueue.specs.declared.chain.Fetched.the-variants.{Here}
+use Rattle.virtqueue.specs.Contracts.{Got, gotOf, entryBy, stopAt}
 use Rattle.virtqueue.specs.declared.chain.Descriptor.{Descriptor}
 use Rattle.virtqueue.proofs.ChainLaws.{added-late, Going, going-start, going-next, going-whole, going-ended, end-ended, next-below, next-astray, follow-none, follow-out, follow-stopped, follow-last, follow-astray, follow-next}
 use Rattle.virtqueue.proofs.chain.gather.Statement.{statement}
@@ -33,7 +32,7 @@ Entry = tie.Start Inv-loop μ-loop
 abbrev guest : Entry → Guest
 guest s = viewGuest (viewOf (s .args .view .now)) (s .args .block) (s .args .plugged .now)
 
-abbrev entries : Entry → ℕ → Fetched
+abbrev entries : Entry → ℕ → chains.Entry
 entries s = fetched (guest s) (s .args .mem .now) (s .args .table .0)
 
 abbrev chain : Entry → Chain
@@ -47,8 +46,8 @@ some-left : (c : tie.In-loop Inv-loop μ-loop) → 0 < c .before .loop .left
 some-left c = c .loop-test .taken
 
 -- the descriptor that a turn reads
-here : (c : tie.After-known-told Inv-loop μ-loop) → entries (c .before .before .before .before .before .before .before .before .before .before .before) (c .before .before .before .before .before .loop .i) ≡ Here (c .before .d .given .0 .0)
-here c = sym (c .before .before .before .fetch .ensures) ∙ c .before .d .given .1
+here : (c : tie.After-known-told Inv-loop μ-loop) → entries (c .before .before .before .before .before .before .before .before .before .before .before) (c .before .before .before .before .before .loop .i) ≡ chains.here (c .before .d .given .0 .0)
+here c = sym (c .before .before .before .fetch .ensures) ∙ ap entryBy (c .before .d .given .1)
 
 -- what is there after the turn's element
 abbrev got : tie.After-visit Inv-loop μ-loop → Got
@@ -66,10 +65,10 @@ late c z = ap (λ (g : Got). g .late) (c .visit .ensures .accepted z) ∙ added-
 
 loop-holds : tie.Need-loop-holds Inv-loop μ-loop
 unfolding chainAt
-loop-holds c = let p = c .before .before .before .before .before .pre .1 .1 .1 in (omega arith, p .0 .2, going-start _ _ _ _ _ (p .1 .0) (p .1 .1))
+loop-holds c = let p = c .before .before .before .before .before .pre .1 in (omega arith, p .0 .2, going-start _ _ _ _ _ (p .1 .bytes) (p .1 .room))
 
 fetch-requires : tie.Need-fetch-requires Inv-loop μ-loop
-fetch-requires c κs = let s = c .before .before .before .before .before .before .before in let q = s .pre .1 .1 .1 .0 in (s .pre .0, (s .pre .1 .0, (s .pre .1 .1 .0, (q .0, omega (arith, q .1, c .before .loop .inv .1)))))
+fetch-requires c κs = let s = c .before .before .before .before .before .before .before in let q = s .pre .1 .0 in (s .pre .0, (q .0, omega (arith, q .1, c .before .loop .inv .1)))
 
 enum-told : tie.Need-enum-told Inv-loop μ-loop
 enum-told c = c .match .keys1
@@ -78,25 +77,25 @@ ended-requires : tie.Need-ended-requires Inv-loop μ-loop
 ended-requires c κs = tt
 
 same-length : tie.Need-same-length Inv-loop μ-loop
-same-length c = c .before .before .before .before .before .loop .inv .2 .«all-read» ∙ sym (c .before .before .before .before .before .before .before .before .before .before .before .pre .1 .1 .1 .1 .0)
+same-length c = c .before .before .before .before .before .loop .inv .2 .«all-read» ∙ sym (c .before .before .before .before .before .before .before .before .before .before .before .pre .1 .1 .bytes)
 
 same-length-2 : tie.Need-same-length-2 Inv-loop μ-loop
-same-length-2 c = c .before .before .before .before .before .loop .inv .2 .«all-written» ∙ sym (c .before .before .before .before .before .before .before .before .before .before .before .pre .1 .1 .1 .1 .1)
+same-length-2 c = c .before .before .before .before .before .loop .inv .2 .«all-written» ∙ sym (c .before .before .before .before .before .before .before .before .before .before .before .pre .1 .1 .room)
 
 returns : tie.Need-returns Inv-loop μ-loop
-returns c = going-ended _ _ _ (left-of (c .before .before .before .before .before)) 17 _ _ _ (c .before .before .before .before .before .loop .inv .2) (follow-out _ _ _ _ _ _ (some-left (c .before .before .before .before)) (sym (c .before .before .before .fetch .ensures) ∙ c .before .enum-told .given .1)) (λ z. omega arith) (c .ended .ensures)
+returns c = going-ended _ _ _ (left-of (c .before .before .before .before .before)) 17 _ _ _ (c .before .before .before .before .before .loop .inv .2) (follow-out _ _ _ _ _ _ (some-left (c .before .before .before .before)) (sym (c .before .before .before .fetch .ensures) ∙ ap entryBy (c .before .enum-told .given .1))) (λ z. omega arith) (c .ended .ensures)
 
 enum-known-d : tie.Need-enum-known-d Inv-loop μ-loop
 enum-known-d c = c .match .keys2
 
 visit-requires : tie.Need-visit-requires Inv-loop μ-loop
-visit-requires c κs = let s = c .before .before .before .before .before .before .before .before .before .before .before .before .before in let g = c .before .before .before .before .before .before .before .loop .inv .2 in (s .pre .0, (s .pre .1 .0, (s .pre .1 .1 .0, record { «few-read» = g .«few-read»; «few-written» = g .«few-written»; «all-read» = g .«all-read»; «all-written» = g .«all-written» })))
+visit-requires c κs = let s = c .before .before .before .before .before .before .before .before .before .before .before .before .before in let g = c .before .before .before .before .before .before .before .loop .inv .2 in (s .pre .0, record { «few-read» = g .«few-read»; «few-written» = g .«few-written»; «all-read» = g .«all-read»; «all-written» = g .«all-written» })
 
 same-length-3 : tie.Need-same-length-3 Inv-loop μ-loop
-same-length-3 c = c .before .before .before .before .before .before .visit .kept .1 .1 .1 .1 .1 .1 .1 .0 ∙ c .before .before .before .before .before .before .before .before .before .before .before .before .before .before .loop .inv .2 .«all-read» ∙ sym (c .before .before .before .before .before .before .before .before .before .before .before .before .before .before .before .before .before .before .before .before .pre .1 .1 .1 .1 .0)
+same-length-3 c = c .before .before .before .before .before .before .visit .kept .1 .1 .1 .1 .1 .1 .1 .0 ∙ c .before .before .before .before .before .before .before .before .before .before .before .before .before .before .loop .inv .2 .«all-read» ∙ sym (c .before .before .before .before .before .before .before .before .before .before .before .before .before .before .before .before .before .before .before .before .pre .1 .1 .bytes)
 
 same-length-4 : tie.Need-same-length-4 Inv-loop μ-loop
-same-length-4 c = c .before .before .before .before .before .before .visit .kept .1 .1 .1 .1 .1 .1 .1 .1 .0 ∙ c .before .before .before .before .before .before .before .before .before .before .before .before .before .before .loop .inv .2 .«all-written» ∙ sym (c .before .before .before .before .before .before .before .before .before .before .before .before .before .before .before .before .before .before .before .before .pre .1 .1 .1 .1 .1)
+same-length-4 c = c .before .before .before .before .before .before .visit .kept .1 .1 .1 .1 .1 .1 .1 .1 .0 ∙ c .before .before .before .before .before .before .before .before .before .before .before .before .before .before .loop .inv .2 .«all-written» ∙ sym (c .before .before .before .before .before .before .before .before .before .before .before .before .before .before .before .before .before .before .before .before .pre .1 .1 .room)
 
 returns-2 : tie.Need-returns-2 Inv-loop μ-loop
 returns-2 c = let v = c .before .before .before .before .before .before in going-ended _ _ _ (left-of (v .before .before .before .before .before .before .before .before)) _ _ _ _ (v .before .before .before .before .before .before .before .before .loop .inv .2) (follow-stopped _ _ _ _ _ _ (here (v .before .before .before)) _ _ (some-left (v .before .before .before .before .before .before .before)) (v .visit .ensures .end) (c .if1 .taken)) (c .if1 .taken) refl
@@ -105,10 +104,10 @@ has-next-requires : tie.Need-has-next-requires Inv-loop μ-loop
 has-next-requires c κs = tt
 
 same-length-5 : tie.Need-same-length-5 Inv-loop μ-loop
-same-length-5 c = c .before .before .before .before .before .before .before .before .visit .kept .1 .1 .1 .1 .1 .1 .1 .0 ∙ c .before .before .before .before .before .before .before .before .before .before .before .before .before .before .before .before .loop .inv .2 .«all-read» ∙ sym (c .before .before .before .before .before .before .before .before .before .before .before .before .before .before .before .before .before .before .before .before .before .before .pre .1 .1 .1 .1 .0)
+same-length-5 c = c .before .before .before .before .before .before .before .before .visit .kept .1 .1 .1 .1 .1 .1 .1 .0 ∙ c .before .before .before .before .before .before .before .before .before .before .before .before .before .before .before .before .loop .inv .2 .«all-read» ∙ sym (c .before .before .before .before .before .before .before .before .before .before .before .before .before .before .before .before .before .before .before .before .before .before .pre .1 .1 .bytes)
 
 same-length-6 : tie.Need-same-length-6 Inv-loop μ-loop
-same-length-6 c = c .before .before .before .before .before .before .before .before .visit .kept .1 .1 .1 .1 .1 .1 .1 .1 .0 ∙ c .before .before .before .before .before .before .before .before .before .before .before .before .before .before .before .before .loop .inv .2 .«all-written» ∙ sym (c .before .before .before .before .before .before .before .before .before .before .before .before .before .before .before .before .before .before .before .before .before .before .pre .1 .1 .1 .1 .1)
+same-length-6 c = c .before .before .before .before .before .before .before .before .visit .kept .1 .1 .1 .1 .1 .1 .1 .1 .0 ∙ c .before .before .before .before .before .before .before .before .before .before .before .before .before .before .before .before .loop .inv .2 .«all-written» ∙ sym (c .before .before .before .before .before .before .before .before .before .before .before .before .before .before .before .before .before .before .before .before .before .before .pre .1 .1 .room)
 
 returns-3 : tie.Need-returns-3 Inv-loop μ-loop
 returns-3 c = let v = c .before .before .before .before .before .before .before .before in
@@ -119,10 +118,10 @@ ended-requires-2 : tie.Need-ended-requires-2 Inv-loop μ-loop
 ended-requires-2 c κs = tt
 
 same-length-7 : tie.Need-same-length-7 Inv-loop μ-loop
-same-length-7 c = c .before .before .before .before .before .before .before .before .before .before .before .visit .kept .1 .1 .1 .1 .1 .1 .1 .0 ∙ c .before .before .before .before .before .before .before .before .before .before .before .before .before .before .before .before .before .before .before .loop .inv .2 .«all-read» ∙ sym (c .before .before .before .before .before .before .before .before .before .before .before .before .before .before .before .before .before .before .before .before .before .before .before .before .before .pre .1 .1 .1 .1 .0)
+same-length-7 c = c .before .before .before .before .before .before .before .before .before .before .before .visit .kept .1 .1 .1 .1 .1 .1 .1 .0 ∙ c .before .before .before .before .before .before .before .before .before .before .before .before .before .before .before .before .before .before .before .loop .inv .2 .«all-read» ∙ sym (c .before .before .before .before .before .before .before .before .before .before .before .before .before .before .before .before .before .before .before .before .before .before .before .before .before .pre .1 .1 .bytes)
 
 same-length-8 : tie.Need-same-length-8 Inv-loop μ-loop
-same-length-8 c = c .before .before .before .before .before .before .before .before .before .before .before .visit .kept .1 .1 .1 .1 .1 .1 .1 .1 .0 ∙ c .before .before .before .before .before .before .before .before .before .before .before .before .before .before .before .before .before .before .before .loop .inv .2 .«all-written» ∙ sym (c .before .before .before .before .before .before .before .before .before .before .before .before .before .before .before .before .before .before .before .before .before .before .before .before .before .pre .1 .1 .1 .1 .1)
+same-length-8 c = c .before .before .before .before .before .before .before .before .before .before .before .visit .kept .1 .1 .1 .1 .1 .1 .1 .1 .0 ∙ c .before .before .before .before .before .before .before .before .before .before .before .before .before .before .before .before .before .before .before .loop .inv .2 .«all-written» ∙ sym (c .before .before .before .before .before .before .before .before .before .before .before .before .before .before .before .before .before .before .before .before .before .before .before .before .before .pre .1 .1 .room)
 
 returns-4 : tie.Need-returns-4 Inv-loop μ-loop
 returns-4 c = let v = c .before .before .before .before .before .before .before .before .before .before .before in
@@ -154,10 +153,10 @@ ended-requires-3 : tie.Need-ended-requires-3 Inv-loop μ-loop
 ended-requires-3 c κs = tt
 
 same-length-9 : tie.Need-same-length-9 Inv-loop μ-loop
-same-length-9 c = c .before .before .loop .inv .2 .«all-read» ∙ sym (c .before .before .before .before .before .before .before .before .pre .1 .1 .1 .1 .0)
+same-length-9 c = c .before .before .loop .inv .2 .«all-read» ∙ sym (c .before .before .before .before .before .before .before .before .pre .1 .1 .bytes)
 
 same-length-10 : tie.Need-same-length-10 Inv-loop μ-loop
-same-length-10 c = c .before .before .loop .inv .2 .«all-written» ∙ sym (c .before .before .before .before .before .before .before .before .pre .1 .1 .1 .1 .1)
+same-length-10 c = c .before .before .loop .inv .2 .«all-written» ∙ sym (c .before .before .before .before .before .before .before .before .pre .1 .1 .room)
 
 returns-5 : tie.Need-returns-5 Inv-loop μ-loop
 returns-5 c = going-ended _ _ _ (left-of (c .before .before)) 20 _ _ _ (c .before .before .loop .inv .2) (follow-none _ _ _ _ _ _ (let h = c .before .loop-test .left in omega (arith, h))) (λ z. omega arith) (c .ended3 .ensures)

@@ -18,10 +18,10 @@ returns : tie.Need-returns
 returns c = visits-misplaced _ _ _ _ _ _ _ (sym (c .before .before .is-misplaced .ensures) ∙ c .before .if1 .taken) (c .ended .ensures)
 
 near-requires : tie.Need-near-requires
-near-requires c κs = search needs
+near-requires c κs = c .before .before .before .before .before .before .before .pre .0 .judged
 
 reaches-requires : tie.Need-reaches-requires
-reaches-requires c κs = search needs
+reaches-requires c κs = let s = c .before .before .before .before .before .before .before .before in (s .pre .0 .judged, (s .pre .0 .some, s .pre .0 .table))
 
 ended-requires-2 : tie.Need-ended-requires-2
 ended-requires-2 c κs = search needs
@@ -30,7 +30,7 @@ returns-2 : tie.Need-returns-2
 returns-2 c = visits-refused _ _ _ _ _ _ _ (sym (c .before .before .before .before .before .is-misplaced .ensures) ∙ c .before .before .before .before .if1 .left) (sym (c .before .before .reaches .ensures) ∙ not-true _ (c .before .if2 .taken)) (c .ended2 .ensures)
 
 add-element-requires : tie.Need-add-element-requires
-add-element-requires c κs = let s = c .before .before .before .before .before .before .before .before .before .before .before .before in (s .pre .0, (s .pre .1 .0, (all-memory (viewOf (s .args .view .now)) (s .args .block) (s .args .plugged .now) _ _ (sym (c .before .before .before .reaches .ensures) ∙ not-false _ (c .before .before .if2 .left)), s .pre .1 .1 .1)))
+add-element-requires c κs = let s = c .before .before .before .before .before .before .before .before .before .before .before .before in (s .pre .0 .judged, (s .pre .0 .backed, (all-memory (viewOf (s .args .view .now)) (s .args .block) (s .args .plugged .now) _ _ (sym (c .before .before .before .reaches .ensures) ∙ not-false _ (c .before .before .if2 .left)), s .pre .1)))
 
 same-length : tie.Need-same-length
 same-length c = search needs

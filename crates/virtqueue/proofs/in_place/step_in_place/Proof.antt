@@ -35,7 +35,7 @@ same-length-2 c = search needs
 
 returns : tie.Need-returns
 returns c = let a = c .before .before .before .before .before .before .before .before .before .before .before .before .before .before .args in
-    step-judged (viewOf (a .view .now)) (a .device .now) (a .queue) (a .mem .now) (sym (c .before .before .before .before .before .before .before .before .before .records-ok .ensures) ∙ c .before .before .before .before .before .before .before .before .if1 .taken) _ _ _ (c .before .before .before .before .step-judged .ensures)
+    step-judged (viewOf (a .view .now)) (a .device .now) (a .queue) (a .mem .now) (sym (c .before .before .before .before .before .before .before .before .before .records-ok .ensures) ∙ c .before .before .before .before .before .before .before .before .if1 .taken) (c .before .before .before .before .step-judged .result) _ _ (c .before .before .before .before .step-judged .ensures)
 
 same-length-3 : tie.Need-same-length-3
 same-length-3 c = search needs

@@ -10,8 +10,7 @@ use Rattle.device_words.proofs.DeviceWords.{ok-length, ok-device, not-device}
 use Rattle.guest_view.specs.View.{viewOk}
 use Rattle.map_records.specs.Words.{viewOf}
 use Rattle.guest_view.proofs.WordLaws.{view-judged}
-use Rattle.virtqueue.specs.Route.{routedWith}
-use Rattle.virtqueue.specs.declared.route.RouteAnswer.{RouteAnswer}
+use Rattle.virtqueue.specs.Route.{Routed, routedWith}
 use Rattle.virtqueue.proofs.RouteAllLaws.{block-big, table-words, view-and-device, device-off, view-off, refused-with, judged-with}
 use Rattle.virtqueue.proofs.route.route.Statement.{statement}
 use Rattle.virtqueue.proofs.route.route.Tie as tie
@@ -55,7 +54,7 @@ returns c =
     let d = deviceOf (a .device .now) in
     let ok = view-and-device v (a .memory-length) d (sym (judged (c .before .before .before .before)) ∙ c .before .before .before .if2 .taken) (device (c .before .before .before .before .before .before)) in
     c .route-judged .ensures
-    ∙ sym (ap (λ (f : ℕ → ℕ → RouteAnswer). f (a .address .0) (a .width)) (judged-with v (a .memory-length) d (c .before .before .block-size .result) (c .before .plugged .result .now) (c .before .before .block-size .ensures) (c .before .plugged .ensures) ok))
+    ∙ sym (ap (λ (f : ℕ → ℕ → Routed). f (a .address .0) (a .width)) (judged-with v (a .memory-length) d (c .before .before .block-size .result) (c .before .plugged .result .now) (c .before .before .block-size .ensures) (c .before .plugged .ensures) ok))
 
 returns-2 : tie.Need-returns-2
 returns-2 c =

@@ -6,7 +6,7 @@ use Prim.Native.Nat.{ℕ}
 use Rattle.guest_view.specs.View.{noRegionBound}
 use Rattle.map_records.specs.Words.{viewOf}
 use Rattle.guest_view.proofs.WordLaws.{view-judged}
-use Rattle.virtqueue.specs.declared.route.RouteAnswer.{RouteAnswer}
+use Rattle.virtqueue.specs.Route.{Routed}
 use Rattle.virtqueue.proofs.RouteAllLaws.{refused-without, judged-without}
 use Rattle.virtqueue.proofs.route.route_without_device.Statement.{statement}
 use Rattle.virtqueue.proofs.route.route_without_device.Tie as tie
@@ -26,7 +26,7 @@ returns : tie.Need-returns
 returns c =
     let a = c .before .before .before .before .before .args in
     c .route-judged .ensures
-    ∙ sym (ap (λ (f : ℕ → ℕ → RouteAnswer). f (a .address .0) (a .width)) (judged-without (viewOf (a .view .now)) (a .memory-length) 4096 (sym (c .before .before .before .view-ok .ensures) ∙ c .before .before .if1 .taken)))
+    ∙ sym (ap (λ (f : ℕ → ℕ → Routed). f (a .address .0) (a .width)) (judged-without (viewOf (a .view .now)) (a .memory-length) 4096 (sym (c .before .before .before .view-ok .ensures) ∙ c .before .before .if1 .taken)))
 
 returns-2 : tie.Need-returns-2
 returns-2 c =

@@ -10,14 +10,13 @@ use Rattle.map_records.specs.View.{entries}
 use Rattle.device_words.specs.Device.{pluggedIn}
 use Rattle.map_records.specs.Words.{viewOf}
 use Rattle.guest_view.specs.Guest.{leafAt}
-use Rattle.virtqueue.specs.Route.{routed, answerWords, answersTo}
-use Rattle.virtqueue.specs.declared.route.RouteAnswer.{RouteAnswer}
+use Rattle.virtqueue.specs.Route.{Routed, routed, answerWords, answersTo}
 use Rattle.virtqueue.proofs.RouteAllLaws.{fit-length, answers-start, answers-turn, answers-end}
 use Rattle.virtqueue.proofs.route.routes_judged.Statement.{statement}
 use Rattle.virtqueue.proofs.route.routes_judged.Tie as tie
 
 -- how one access is answered
-abbrev one : List ℕ → ℕ → List ℕ → ℕ → ℕ → RouteAnswer
+abbrev one : List ℕ → ℕ → List ℕ → ℕ → ℕ → Routed
 one view block plugged = routed (leafAt (entries (viewOf view))) (pluggedIn block plugged)
 
 abbrev Inv-loop : tie.InvT-loop
@@ -78,7 +77,7 @@ loop-again c =
     let h = c .before .before .before .before .before .before .before .before .loop-test .taken in
     let f = one (s .args .view .now) (s .args .block) (s .args .plugged .now) in
     let accesses = s .args .accesses .now in
-    let e = c .before .before .put-answer .ensures ∙ ap (λ (r : RouteAnswer). sets (l .answers) (4 * l .i) (answerWords r)) (c .before .before .before .before .route-at .ensures) in (
+    let e = c .before .before .put-answer .ensures ∙ ap (λ (r : Routed). sets (l .answers) (4 * l .i) (answerWords r)) (c .before .before .before .before .route-at .ensures) in (
       ap (λ (x : List ℕ). sets x (4 * (l .i + 1)) (answersTo f accesses (l .i + 1) (length accesses / 2 - (l .i + 1)))) e ∙ answers-turn f accesses (l .answers) (l .i) (length accesses / 2) h ∙ l .inv .0,
       omega (arith, h),
       ap length e ∙ simp length-sets (l .inv .2),

@@ -13,7 +13,7 @@ use Rattle.guest_view.proofs.WordLaws.{ordered-judged}
 use Rattle.virtqueue.specs.Step.{recordsOk}
 use Rattle.virtqueue.specs.declared.queue.SplitQueue.{SplitQueue}
 use Rattle.virtqueue.specs.declared.run.RunEnd.{RunEnd}
-use Rattle.virtqueue.specs.declared.run.RunEnd.the-variants.{AllDone}
+use Rattle.virtqueue.specs.declared.run.RunEnd.the-variants.{AllDone, Idle, Refused}
 use Rattle.virtqueue.proofs.DeviceLaws.{full}
 use Rattle.virtqueue.proofs.StepLaws.{RecordFacts, records-facts}
 use Rattle.virtqueue.proofs.RunLaws.{Running, Ends, RunLeft, run-starts, run-all, run-refused, run-idle, run-turn, run-judged, run-refused-all}
@@ -41,12 +41,12 @@ whole : (c : tie.Else1 Inv-loop μ-loop) → length (c .before .before .before .
 whole c = eqb-true (length (c .before .before .before .before .before .before .args .device .now)) 37 (full _ _ _ _ (judged c))
 
 -- what the whole run comes to is what is promised
-done : (c : tie.After-at-most Inv-loop μ-loop) (served : ℕ) (notified : Bool) (e : RunEnd) (q : SplitQueue) (x m : List ℕ) → length x ≡ length (c .before .before .before .before .before .before .before .args .device .now)
-    → (let a = c .before .before .before .before .before .before .before .args in Ends (viewOf (a .view .now)) (c .at-most .result) (a .mem .now) (deviceOf (a .device .now)) (a .queue) served notified e q x m)
+done : (c : tie.After-least Inv-loop μ-loop) (served : ℕ) (notified : Bool) (e : RunEnd) (q : SplitQueue) (x m : List ℕ) → length x ≡ length (c .before .before .before .before .before .before .before .args .device .now)
+    → (let a = c .before .before .before .before .before .before .before .args in Ends (viewOf (a .view .now)) (c .least .result) (a .mem .now) (deviceOf (a .device .now)) (a .queue) served notified e q x m)
     → (let a = c .before .before .before .before .before .before .before .args in RunLeft (viewOf (a .view .now)) (a .device .now) (a .queue) (a .mem .now) (a .k) (record { served = served; notified = notified; end = e; queue = q }) x m)
 done c served notified e q x m l f =
     let a = c .before .before .before .before .before .before .before .args in
-    run-judged (viewOf (a .view .now)) (a .device .now) (a .queue) (a .mem .now) (a .k) (judged (c .before)) (c .at-most .result) (c .at-most .ensures) served notified e q x m l f
+    run-judged (viewOf (a .view .now)) (a .device .now) (a .queue) (a .mem .now) (a .k) (judged (c .before)) (c .least .result) (c .least .ensures) (record { served = served; notified = notified; end = e; queue = q }) x m l f
 
 records-ok-requires : tie.Need-records-ok-requires Inv-loop μ-loop
 records-ok-requires c κs = tt
@@ -57,8 +57,8 @@ same-length c = refl
 returns : tie.Need-returns Inv-loop μ-loop
 returns c = let a = c .before .before .before .before .before .before .args in run-refused-all (viewOf (a .view .now)) (a .device .now) (a .queue) (a .mem .now) (a .k) (sym (c .before .records-ok .ensures) ∙ not-true (c .before .records-ok .result) (c .if1 .taken))
 
-at-most-requires : tie.Need-at-most-requires Inv-loop μ-loop
-at-most-requires c κs = tt
+least-requires : tie.Need-least-requires Inv-loop μ-loop
+least-requires c κs = tt
 
 near-requires : tie.Need-near-requires Inv-loop μ-loop
 near-requires c κs = words (c .before)
@@ -79,7 +79,7 @@ enum-known-outcome-2 : tie.Need-enum-known-outcome-2 Inv-loop μ-loop
 enum-known-outcome-2 c = c .match .keys3
 
 add-served : tie.Need-add-served Inv-loop μ-loop
-add-served c = record { fits = omega (arith, c .before .before .before .before .before .before .before .before .before .before .before .loop-test .taken, c .before .before .before .before .before .before .before .before .before .before .before .before .before .before .at-most .ensures) }
+add-served c = record { fits = omega (arith, c .before .before .before .before .before .before .before .before .before .before .before .loop-test .taken, c .before .before .before .before .before .before .before .before .before .before .before .before .before .before .least .ensures) }
 
 loop-less : tie.Need-loop-less Inv-loop μ-loop
 loop-less c = let l = c .before .before .before .before .before .before .before .before .before .before .before .loop-test .taken in omega arith
@@ -97,7 +97,7 @@ same-length-3 : tie.Need-same-length-3 Inv-loop μ-loop
 same-length-3 c = c .before .loop .inv .0 .same
 
 returns-2 : tie.Need-returns-2 Inv-loop μ-loop
-returns-2 c = let l = c .before .loop in rw (l .inv .1) (done (c .before .before .before) _ _ _ _ _ _ (l .inv .0 .words ∙ sym (whole (c .before .before .before .before))) (run-all _ _ _ _ _ _ _ _ _ _ (l .inv .0) (c .loop-test .left)))
+returns-2 c = let l = c .before .loop in rw (l .inv .1) (done (c .before .before .before) _ _ AllDone _ _ _ (l .inv .0 .words ∙ sym (whole (c .before .before .before .before))) (run-all _ _ _ _ _ _ _ _ _ _ (l .inv .0) (c .loop-test .left)))
 
 same-length-4 : tie.Need-same-length-4 Inv-loop μ-loop
 same-length-4 c = c .before .before .before .before .before .before .before .before .step-judged .kept .1 .0 ∙ c .before .before .before .before .before .before .before .before .before .before .before .before .loop .inv .0 .words ∙ sym (whole (c .before .before .before .before .before .before .before .before .before .before .before .before .before .before .before))
@@ -106,7 +106,7 @@ same-length-5 : tie.Need-same-length-5 Inv-loop μ-loop
 same-length-5 c = c .before .before .before .before .before .before .before .before .step-judged .kept .1 .1 .1 .0 ∙ c .before .before .before .before .before .before .before .before .before .before .before .before .loop .inv .0 .same
 
 returns-3 : tie.Need-returns-3 Inv-loop μ-loop
-returns-3 c = done (c .before .before .before .before .before .before .before .before .before .before .before .before .before .before) _ _ _ _ _ _ (c .before .before .before .before .before .before .before .before .step-judged .kept .1 .0 ∙ c .before .before .before .before .before .before .before .before .before .before .before .before .loop .inv .0 .words ∙ sym (whole (c .before .before .before .before .before .before .before .before .before .before .before .before .before .before .before))) (run-refused _ _ _ _ _ _ _ _ _ _ (c .before .before .before .before .before .before .before .before .before .before .before .before .loop .inv .0) (c .before .before .before .before .before .before .before .before .before .before .before .loop-test .taken) (c .before .before .before .before .before .before .before .before .step-judged .result) _ _ (c .before .before .before .before .before .before .before .before .step-judged .ensures) (c .before .before .before .before .before .before .before .before .step-judged .kept .1 .0) _ (c .before .outcome .given .1))
+returns-3 c = done (c .before .before .before .before .before .before .before .before .before .before .before .before .before .before) _ _ (Refused (c .before .outcome .given .0 .0)) _ _ _ (c .before .before .before .before .before .before .before .before .step-judged .kept .1 .0 ∙ c .before .before .before .before .before .before .before .before .before .before .before .before .loop .inv .0 .words ∙ sym (whole (c .before .before .before .before .before .before .before .before .before .before .before .before .before .before .before))) (run-refused _ _ _ _ _ _ _ _ _ _ (c .before .before .before .before .before .before .before .before .before .before .before .before .loop .inv .0) (c .before .before .before .before .before .before .before .before .before .before .before .loop-test .taken) (c .before .before .before .before .before .before .before .before .step-judged .result) _ _ (c .before .before .before .before .before .before .before .before .step-judged .ensures) (c .before .before .before .before .before .before .before .before .step-judged .kept .1 .0) _ (c .before .outcome .given .1))
 
 same-length-6 : tie.Need-same-length-6 Inv-loop μ-loop
 same-length-6 c = c .before .before .before .before .before .before .before .step-judged .kept .1 .0 ∙ c .before .before .before .before .before .before .before .before .before .before .before .loop .inv .0 .words ∙ sym (whole (c .before .before .before .before .before .before .before .before .before .before .before .before .before .before))
@@ -115,7 +115,7 @@ same-length-7 : tie.Need-same-length-7 Inv-loop μ-loop
 same-length-7 c = c .before .before .before .before .before .before .before .step-judged .kept .1 .1 .1 .0 ∙ c .before .before .before .before .before .before .before .before .before .before .before .loop .inv .0 .same
 
 returns-4 : tie.Need-returns-4 Inv-loop μ-loop
-returns-4 c = done (c .before .before .before .before .before .before .before .before .before .before .before .before .before) _ _ _ _ _ _ (c .before .before .before .before .before .before .before .step-judged .kept .1 .0 ∙ c .before .before .before .before .before .before .before .before .before .before .before .loop .inv .0 .words ∙ sym (whole (c .before .before .before .before .before .before .before .before .before .before .before .before .before .before))) (run-idle _ _ _ _ _ _ _ _ _ _ (c .before .before .before .before .before .before .before .before .before .before .before .loop .inv .0) (c .before .before .before .before .before .before .before .before .before .before .loop-test .taken) (c .before .before .before .before .before .before .before .step-judged .result) _ _ (c .before .before .before .before .before .before .before .step-judged .ensures) (c .before .before .before .before .before .before .before .step-judged .kept .1 .0) (c .enum-told .given .1))
+returns-4 c = done (c .before .before .before .before .before .before .before .before .before .before .before .before .before) _ _ Idle _ _ _ (c .before .before .before .before .before .before .before .step-judged .kept .1 .0 ∙ c .before .before .before .before .before .before .before .before .before .before .before .loop .inv .0 .words ∙ sym (whole (c .before .before .before .before .before .before .before .before .before .before .before .before .before .before))) (run-idle _ _ _ _ _ _ _ _ _ _ (c .before .before .before .before .before .before .before .before .before .before .before .loop .inv .0) (c .before .before .before .before .before .before .before .before .before .before .loop-test .taken) (c .before .before .before .before .before .before .before .step-judged .result) _ _ (c .before .before .before .before .before .before .before .step-judged .ensures) (c .before .before .before .before .before .before .before .step-judged .kept .1 .0) (c .enum-told .given .1))
 
 pub run-steps-spec : {M : Type 1} → statement M
 run-steps-spec =
@@ -126,7 +126,7 @@ run-steps-spec =
     records-ok-requires
     same-length
     returns
-    at-most-requires
+    least-requires
     near-requires
     loop-holds
     step-judged-requires

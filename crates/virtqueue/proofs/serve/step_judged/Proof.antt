@@ -39,8 +39,15 @@ slice-aggregate-take-2 c = search needs
 take-requires : tie.Need-take-requires
 take-requires c κs = let s = c .before .before .before .before .before .before .before .before .before .before in
     let w = s .args .device .now in
-    let d = s .pre .1 .1 .0 in
-    (s .pre .0, (s .pre .1 .0, ((omega (arith, c .before .before .before .before .before .block-size .ensures, device-valid (deviceOf w) (d .1) .least), ap length (c .before .before .before .plugged .ensures) ∙ tables w (d .0) .0), (s .pre .1 .1 .1, (refl, refl)))))
+    let d = s .pre .1 .1 .0 in (
+      record {
+        judged = s .pre .0;
+        backed = s .pre .1 .0;
+        some = omega (arith, c .before .before .before .before .before .block-size .ensures, device-valid (deviceOf w) (d .1) .least);
+        table = ap length (c .before .before .before .plugged .ensures) ∙ tables w (d .0) .0;
+      },
+      (s .pre .1 .1 .1, record { bytes = refl; room = refl }),
+    )
 
 enum-known-offer : tie.Need-enum-known-offer
 enum-known-offer c = c .match .keys1

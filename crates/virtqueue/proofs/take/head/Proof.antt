@@ -15,7 +15,7 @@ use Rattle.virtqueue.proofs.take.head.Statement.{statement}
 use Rattle.virtqueue.proofs.take.head.Tie as tie
 
 facts : (s : tie.Start) → QueueFacts (s .args .queue)
-facts s = queue-facts (s .args .queue) (s .pre .1 .1 .1)
+facts s = queue-facts (s .args .queue) (s .pre .1)
 
 abbrev reach : tie.Start → ℕ → Bool
 reach s = viewGuest (viewOf (s .args .view .now)) (s .args .block) (s .args .plugged .now) .reach
@@ -34,7 +34,7 @@ ring-entry-requires : tie.Need-ring-entry-requires
 ring-entry-requires c κs = let f = facts (c .before .before .before) in (omega (arith, f .available), f .some)
 
 reaches-requires : tie.Need-reaches-requires
-reaches-requires c κs = (c .before .before .before .before .pre .0, c .before .before .before .before .pre .1 .1 .0)
+reaches-requires c κs = let s = c .before .before .before .before in (s .pre .0 .judged, (s .pre .0 .some, s .pre .0 .table))
 
 returns : tie.Need-returns
 returns c = head-out _ _ _ (sym (tested (c .before)) ∙ not-true _ (c .if1 .taken))
@@ -42,7 +42,7 @@ returns c = head-out _ _ _ (sym (tested (c .before)) ∙ not-true _ (c .if1 .tak
 read-number-requires : tie.Need-read-number-requires
 read-number-requires c κs = let s = c .before .before .before .before .before .before in
     let m = all-memory (viewOf (s .args .view .now)) (s .args .block) (s .args .plugged .now) (ringEntry (s .args .queue)) 2 (ahead c) in
-    (s .pre .0, (s .pre .1 .0, (subst (λ (x : ℕ). InMemory (viewOf (s .args .view .now)) x 2) (sym (c .before .before .ring-entry .ensures)) m, (omega arith, omega arith))))
+    (s .pre .0 .judged, (s .pre .0 .backed, (subst (λ (x : ℕ). InMemory (viewOf (s .args .view .now)) x 2) (sym (c .before .before .ring-entry .ensures)) m, (omega arith, omega arith))))
 
 cast-if2 : tie.Need-cast-if2
 cast-if2 c = omega (arith, facts (c .before .before .before .before .before .before .before .before) .most)

@@ -26,19 +26,19 @@ apart c =
     distance-is _ _ _ (omega (arith, c .wrapping-sub-u16 .ok)) (omega (arith, c .before .before .before .read-number2 .ensures .1)) (omega (arith, c .before .before .struct-known2 .given)) (c .wrapping-sub-u16 .ensures)
 
 reaches-requires : tie.Need-reaches-requires
-reaches-requires c κs = (c .before .before .before .before .pre .0, c .before .before .before .before .pre .1 .1 .0)
+reaches-requires c κs = let s = c .before .before .before .before in (s .pre .0 .judged, (s .pre .0 .some, s .pre .0 .table))
 
 returns : tie.Need-returns
 returns c = notices-out _ _ _ (sym (c .before .reaches .ensures) ∙ not-true _ (c .if1 .taken))
 
 read-number-requires : tie.Need-read-number-requires
-read-number-requires c κs = let s = c .before .before .before .before .before .before in (s .pre .0, (s .pre .1 .0, (memory-front (viewOf (s .args .view .now)) (s .args .queue .available .0) 4 2 (in-memory c) (omega arith), (omega arith, omega arith))))
+read-number-requires c κs = let s = c .before .before .before .before .before .before in (s .pre .0 .judged, (s .pre .0 .backed, (memory-front (viewOf (s .args .view .now)) (s .args .queue .available .0) 4 2 (in-memory c) (omega arith), (omega arith, omega arith))))
 
 add-t14 : tie.Need-add-t14
-add-t14 c = omega (arith, queue-facts (c .before .before .before .before .before .before .before .before .args .queue) (c .before .before .before .before .before .before .before .before .pre .1 .1 .1) .available)
+add-t14 c = omega (arith, queue-facts (c .before .before .before .before .before .before .before .before .args .queue) (c .before .before .before .before .before .before .before .before .pre .1) .available)
 
 read-number-requires-2 : tie.Need-read-number-requires-2
-read-number-requires-2 c κs = let s = c .before .before .before .before .before .before .before .before in (s .pre .0, (s .pre .1 .0, (memory-part (viewOf (s .args .view .now)) (s .args .queue .available .0) 4 2 2 (in-memory (c .before .before)) (omega arith), (omega arith, omega arith))))
+read-number-requires-2 c κs = let s = c .before .before .before .before .before .before .before .before in (s .pre .0 .judged, (s .pre .0 .backed, (memory-part (viewOf (s .args .view .now)) (s .args .queue .available .0) 4 2 2 (in-memory (c .before .before)) (omega arith), (omega arith, omega arith))))
 
 cast-idx : tie.Need-cast-idx
 cast-idx c = omega (arith, c .read-number2 .ensures .1)

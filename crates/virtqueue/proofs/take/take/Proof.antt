@@ -19,7 +19,7 @@ returns : tie.Need-returns
 returns c = subst (TakesOffer (c .before .before .before .before .before .before) _ _ _) (sym (offered-stopped _ _ _ (c .if1 .taken))) refl
 
 notices-requires : tie.Need-notices-requires
-notices-requires c κs = let s = c .before .before .before .before .before .before in (s .pre .0, (s .pre .1 .0, (s .pre .1 .1 .0, s .pre .1 .1 .1 .0)))
+notices-requires c κs = let s = c .before .before .before .before .before .before in (s .pre .0, s .pre .1 .0)
 
 enum-known-k : tie.Need-enum-known-k
 enum-known-k c = c .match .keys1
@@ -31,7 +31,7 @@ enum-known-notify : tie.Need-enum-known-notify
 enum-known-notify c = c .match .keys3
 
 head-requires : tie.Need-head-requires
-head-requires c κs = let s = c .before .before .before .before .before .before .before .before .before .before in (s .pre .0, (s .pre .1 .0, (s .pre .1 .1 .0, s .pre .1 .1 .1 .0)))
+head-requires c κs = let s = c .before .before .before .before .before .before .before .before .before .before in (s .pre .0, s .pre .1 .0)
 
 enum-known-k-2 : tie.Need-enum-known-k-2
 enum-known-k-2 c = c .match2 .keys1
@@ -41,7 +41,7 @@ enum-known-h c = c .match2 .keys2
 
 take-chain-requires : tie.Need-take-chain-requires
 take-chain-requires c κs = let s = c .before .before .before .before .before .before .before .before .before .before .before .before .before .before .before .before in
-    (s .pre .0, (s .pre .1 .0, (s .pre .1 .1 .0, (s .pre .1 .1 .1 .0, (head-low _ _ _ _ (sym (c .before .before .before .before .before .head .ensures) ∙ c .before .before .before .h .given .1), s .pre .1 .1 .1 .1)))))
+    (s .pre .0, (s .pre .1 .0, (head-low _ _ _ _ (sym (c .before .before .before .before .before .head .ensures) ∙ c .before .before .before .h .given .1), s .pre .1 .1)))
 
 returns-2 : tie.Need-returns-2
 returns-2 c = subst (TakesOffer (c .before .before .before .before .before .before .before .before .before .before) _ _ _) (sym (offered-notices _ _ _ _ (c .before .before .before .before .if1 .left) (sym (c .before .before .before .notices .ensures) ∙ c .before .k .given .1))) refl

@@ -29,10 +29,10 @@ abbrev chain : tie.Start → Chain
 chain s = chainOf (guest s) (s .args .mem .now) (s .args .queue) (s .args .head)
 
 full-request : (c : tie.After-gather) → length (c .gather .last .1 .1 .1 .1 .1 .1 .1 .1 .0) ≡ 24
-full-request c = c .gather .kept .1 .1 .1 .1 .1 .1 .1 .1 .0 ∙ c .before .before .before .before .before .before .before .before .before .before .pre .1 .1 .1 .1 .1 .0
+full-request c = c .gather .kept .1 .1 .1 .1 .1 .1 .1 .1 .0 ∙ c .before .before .before .before .before .before .before .before .before .before .pre .1 .1 .1 .bytes
 
 full-places : (c : tie.After-gather) → length (c .gather .last .1 .1 .1 .1 .1 .1 .1 .1 .1 .0) ≡ 10
-full-places c = c .gather .kept .1 .1 .1 .1 .1 .1 .1 .1 .1 .0 ∙ c .before .before .before .before .before .before .before .before .before .before .pre .1 .1 .1 .1 .1 .1
+full-places c = c .gather .kept .1 .1 .1 .1 .1 .1 .1 .1 .1 .0 ∙ c .before .before .before .before .before .before .before .before .before .before .pre .1 .1 .1 .room
 
 its-shape : (c : tie.After-shape) → c .shape .result ≡ shapeOf (chain (c .before .before .before .before .before .before .before .before .before .before .before .before .before .before .before))
 its-shape c = c .shape .ensures ∙ gathered-shape _ _ _ _ _ _ (c .before .before .before .before .before .gather .ensures) (full-request (c .before .before .before .before .before)) (full-places (c .before .before .before .before .before))
@@ -41,8 +41,8 @@ cast-size : tie.Need-cast-size
 cast-size c = search needs
 
 gather-requires : tie.Need-gather-requires
-gather-requires c κs = let s = c .before .before .before .before .before .before .before .before .before in let f = queue-facts (s .args .queue) (s .pre .1 .1 .1 .0) in
-    (s .pre .0, (s .pre .1 .0, (s .pre .1 .1 .0, ((omega (arith, f .descriptors), f .most, s .pre .1 .1 .1 .1 .0), s .pre .1 .1 .1 .1 .1))))
+gather-requires c κs = let s = c .before .before .before .before .before .before .before .before .before in let f = queue-facts (s .args .queue) (s .pre .1 .0) in
+    (s .pre .0, ((omega (arith, f .descriptors), f .most, s .pre .1 .1 .0), s .pre .1 .1 .1))
 
 shape-requires : tie.Need-shape-requires
 shape-requires c κs = search needs
@@ -57,7 +57,7 @@ returns : tie.Need-returns
 returns c = subst (TakesChain (c .before .before .before .before .before .before .before .before .before .before .before .before .before .before .before .before) _ _ _) (sym (chain-ended _ _ _ _ _ (λ e. c .if1 .taken (its-shape (c .before) ∙ e)))) (ap offer.Stop (its-shape (c .before)))
 
 used-reached-requires : tie.Need-used-reached-requires
-used-reached-requires c κs = let s = c .before .before .before .before .before .before .before .before .before .before .before .before .before .before .before .before in (s .pre .0, (s .pre .1 .1 .0, s .pre .1 .1 .1 .0))
+used-reached-requires c κs = let s = c .before .before .before .before .before .before .before .before .before .before .before .before .before .before .before .before in (s .pre .0 .judged, ((s .pre .0 .some, s .pre .0 .table), s .pre .1 .0))
 
 same-length-3 : tie.Need-same-length-3
 same-length-3 c = search needs

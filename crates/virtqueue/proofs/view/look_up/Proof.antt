@@ -11,8 +11,8 @@ use Rattle.map_records.specs.View.{offsetIn}
 use Rattle.guest_view.specs.Contracts.{Judged}
 use Rattle.guest_view.proofs.WordLaws.{view-judged}
 use Rattle.guest_view.proofs.ReadLaws.{spot-in, read-low, read-offset}
-use Rattle.virtqueue.specs.declared.view.LookUp.{LookUp}
-use Rattle.virtqueue.specs.declared.view.LookUp.the-variants as answer
+use Rattle.region_map.specs.Resolve.{Led, leads}
+use Rattle.region_map.specs.declared.resolve.Resolved.the-variants.{At}
 use Rattle.virtqueue.proofs.RouteLaws.{looked-record, looked-at, looked-nothing}
 use Rattle.virtqueue.proofs.view.look_up.Statement.{statement}
 use Rattle.virtqueue.proofs.view.look_up.Tie as tie
@@ -49,8 +49,8 @@ offset-in-requires c κs = (
 returns : tie.Need-returns
 returns c =
     let a = c .before .before .before .before .before .before .before .before .args in
-    ap {B = LookUp} (λ (n : ℕ). answer.At (c .before .range-at .result .region) (record { 0 = n })) (c .offset-in .ensures)
-    ∙ ap {B = LookUp} (λ (r : FlatRange). answer.At (r .region) (record { 0 = offsetIn r (a .address .0) })) (c .before .range-at .ensures)
+    ap {B = Led} (λ (n : ℕ). leads (At (c .before .range-at .result .region) (record { 0 = n }))) (c .offset-in .ensures)
+    ∙ ap {B = Led} (λ (r : FlatRange). leads (At (r .region) (record { 0 = offsetIn r (a .address .0) }))) (c .before .range-at .ensures)
     ∙ sym (looked-at (viewOf (a .view .now)) (a .memory-length) (a .address .0) (ok (c .before .before .before .before .before)) (c .before .before .before .before .near .result) (c .before .before .before .before .near .ensures) (found (c .before .before)))
 
 returns-2 : tie.Need-returns-2

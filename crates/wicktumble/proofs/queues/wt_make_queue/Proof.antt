@@ -3,7 +3,7 @@ use mathlib.Core.Path.{refl, ap, _∙_}
 use native.Mathlib.Omega.{arith}
 use borrow.Author.Needs.{needs}
 use borrow.Author.Tests.{eq-eqb, ne-eqb}
-use Rattle.virtqueue.specs.declared.queue.QueueGiven.{QueueGiven}
+use Rattle.virtqueue.specs.Queue.{Given}
 use Rattle.wicktumble.specs.Queues.{gives, makeCall}
 use Rattle.wicktumble.proofs.CallLaws.{taken, refused}
 use Rattle.wicktumble.proofs.QueueCalls.{changed-as, made-large}
@@ -33,7 +33,7 @@ unfolding makeCall
 returns-2 c =
     let s = c .before .before .before .before in
     let a = s .before .before .before .before .args in
-    changed-as (c .before .before .put-given .ensures) (ap (λ (y : QueueGiven). gives y (a .queue .now)) (s .make-queue .ensures) ∙ taken _ _ (eq-eqb _ _ (s .before .before .if1 .taken)))
+    changed-as (c .before .before .put-given .ensures) (ap (λ (y : Given). gives y (a .queue .now)) (s .make-queue .ensures) ∙ taken _ _ (eq-eqb _ _ (s .before .before .if1 .taken)))
 
 returns-3 : tie.Need-returns-3
 unfolding makeCall

@@ -1,8 +1,7 @@
 -- `wicktumble::queues::wt_reset_queue` meets its contract. Assumes nothing.
 use mathlib.Core.Path.{refl, sym, ap, _∙_}
 use borrow.Author.Needs.{needs}
-use Rattle.virtqueue.specs.Queue.{wasReset}
-use Rattle.virtqueue.specs.declared.queue.QueueGiven.{QueueGiven}
+use Rattle.virtqueue.specs.Queue.{Given, wasReset}
 use Rattle.wicktumble.specs.Queues.{gives, resetQueueCall}
 use Rattle.wicktumble.proofs.CallLaws.{taken, refused}
 use Rattle.wicktumble.proofs.QueueCalls.{queue-widths, changed-as}
@@ -30,7 +29,7 @@ returns c =
     let s = c .before .before .before .before in
     let a = s .before .before .before .before .before .before .before .args in
     changed-as (c .before .before .put-given .ensures)
-    (ap (λ (y : QueueGiven). gives y (a .queue .now)) (s .reset .ensures ∙ ap wasReset (s .before .queue-of .ensures))
+    (ap (λ (y : Given). gives y (a .queue .now)) (s .reset .ensures ∙ ap wasReset (s .before .queue-of .ensures))
     ∙ taken _ _ (sym (s .before .before .before .before .queue-fits .ensures) ∙ s .before .before .before .if1 .taken))
 
 same-length-2 : tie.Need-same-length-2

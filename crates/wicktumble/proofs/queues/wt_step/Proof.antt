@@ -50,7 +50,7 @@ returns : tie.Need-returns
 returns c =
     let s = c .before .before .before .before .before .before .before .before .before .before .before .before .before .before in
     let a = s .before .before .before .before .before .before .before .before .before .before .before .before .before .before .before .args in
-    step-left (a .view .now) (a .device .now) (a .queue .now) (a .memory .now) (a .result .now) (s .before .before .before .before .before .before .records-fit .ensures) (s .before .before .before .before .before .if1 .taken) (s .before .before .queue-of .ensures)
+    step-left (a .view .now) (a .device .now) (a .queue .now) (a .memory .now) (a .result .now) (s .before .before .before .before .before .before .records-fit .ensures) (s .step-in-place .result) (s .before .before .before .before .before .if1 .taken) (s .before .before .queue-of .ensures)
     (s .step-in-place .ensures) (c .before .before .before .before .before .before .before .put-queue .ensures) (c .before .before .before .say-step .ensures) (c .before .before .tell .ensures)
 
 same-length-5 : tie.Need-same-length-5

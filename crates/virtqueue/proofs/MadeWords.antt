@@ -1,0 +1,93 @@
+-- The words that making a view leaves stand for the view of an accepted map. Assumes nothing.
+use mathlib.Core.Path.{_≡_, refl, sym, ap, _∙_}
+use mathlib.Core.Bool.{Bool, true, false, cond}
+use mathlib.Core.List.{List, [], _∷_, _++_}
+use Prim.Native.Nat.{ℕ, suc, _+_, _-_, _*_, _≤_, _<_}
+use native.Mathlib.Decide.{decLt}
+use native.Mathlib.Omega.{arith}
+use lib.Dec.{eqb}
+use lib.ListN.{length, replicate, length-append, length-replicate}
+use Rattle.map_records.specs.View.{noRange}
+use Rattle.map_records.specs.Words.{viewOf, rangeWords, rangesWords, viewWords}
+use Rattle.map_records.specs.declared.map.RegionMap.{RegionMap}
+use Rattle.map_records.specs.declared.view.FlatRange.{FlatRange}
+use Rattle.map_records.specs.declared.view.FlatView.{FlatView}
+use Rattle.map_records.proofs.WordLaws.{view-back, full-words}
+use Rattle.region_map.specs.Check.{judged, Accepted}
+use Rattle.region_map.specs.Reply as reply
+use Rattle.region_map.specs.Reply.{Reply, accepted, plain, ifAccepted}
+use Rattle.region_map.specs.Flatten.{Outcome, flatList, viewHolding, refusal, listed, flattened, laidInto, isView, flattenedInto}
+use Rattle.region_map.specs.Flatten as flatten
+use Rattle.region_map.proofs.Demand3.{demand3-first-half, refused-12}
+
+-- the words of a view stand for it
+ranges-length : (rs : List FlatRange) → length (rangesWords rs) ≡ 6 * length rs
+unfolding rangesWords
+ranges-length [] = refl
+ranges-length (r ∷ rs) = length-append (rangeWords r) (rangesWords rs) ∙ omega (arith, ranges-length rs)
+
+ranges-same : (rs ss : List FlatRange) → length rs ≡ length ss → rangesWords rs ≡ rangesWords ss → rs ≡ ss
+unfolding rangesWords
+ranges-same [] [] l e = refl
+ranges-same [] (s ∷ ss) l e = absurd (omega arith)
+ranges-same (r ∷ rs) [] l e = absurd (omega arith)
+ranges-same (r ∷ rs) (s ∷ ss) l e =
+    let a : r .first .0 ≡ s .first .0 = cc in
+    let b : r .last .0 ≡ s .last .0 = cc in
+    let c : r .region ≡ s .region = cc in
+    let d : r .offset .0 ≡ s .offset .0 = cc in
+    let k : r .kind ≡ s .kind = cc in
+    let x : r .base ≡ s .base = cc in
+    let t : rangesWords rs ≡ rangesWords ss = cc in
+    let rest = ranges-same rs ss (omega arith) t in
+    λ i. record { first = record { 0 = a i }; last = record { 0 = b i }; region = c i; offset = record { 0 = d i }; kind = k i; base = x i } ∷ rest i
+
+pub words-view : (v : FlatView) → length (v .ranges) ≡ 256 → viewOf (viewWords v) ≡ v
+unfolding viewWords
+words-view v h =
+    let size : length (viewWords v) ≡ 1537 = omega (arith, ranges-length (v .ranges)) in
+    let e : viewWords (viewOf (viewWords v)) ≡ viewWords v = view-back (viewWords v) size in
+    let w : FlatView = viewOf (viewWords v) in
+    let c : w .count ≡ v .count = cc in
+    let t : rangesWords (w .ranges) ≡ rangesWords (v .ranges) = cc in
+    let r = ranges-same (w .ranges) (v .ranges) (full-words (viewWords v) ∙ sym h) t in
+    λ i. record { count = c i; ranges = r i }
+
+-- what a made view says of its map
+pub record Made (m : RegionMap) (size : ℕ) (view : List ℕ) : Type 0 where
+  pub accepted : Accepted m size
+  pub few : length (flatList m) ≤ 256
+  pub is : viewOf view ≡ viewHolding (flatList m)
+
+module _ (m : RegionMap) (size : ℕ) (old view : List ℕ) where
+  -- a view is made of an accepted map alone
+  judged-first : (r : Reply) → ifAccepted r refusal (listed (flatList m)) .reply ≡ accepted → r ≡ accepted
+  judged-first accepted e = refl
+  judged-first (reply.nodes k i j) e = e
+  judged-first (reply.place k p) e = e
+  judged-first (reply.plain k) e = e
+
+  pub made-view : flattenedInto m size old ≡ record { reply = accepted; words = view } → Made m size view
+  unfolding flattenedInto flattened Accepted viewHolding
+  made-view e = go (isView old) (λ i. e i)
+    where
+      full : (l : length (flatList m) ≤ 256) → length (viewHolding (flatList m) .ranges) ≡ 256
+      full l = length-append (flatList m) (replicate (256 - length (flatList m)) noRange) ∙ omega (arith, length-replicate (256 - length (flatList m)) noRange)
+
+      of : flattened m size .reply ≡ accepted → laidInto (flattened m size) old .words ≡ view → Made m size view
+      of r w = by (decLt 256 (length (flatList m)))
+        where
+          ok : judged m size ≡ accepted
+          ok = judged-first (judged m size) r
+
+          by : Dec (256 < length (flatList m)) → Made m size view
+          by (yes h) = absurd (let f : plain 12 ≡ accepted = sym (ap (λ (o : Outcome). o .reply) (refused-12 m size ok h)) ∙ r in let z : _≡_ {A = ℕ} 0 1 = cc in omega arith)
+          by (no h) =
+              let few : length (flatList m) ≤ 256 = omega arith in
+              let f = demand3-first-half m size ok few .0 in
+              let g : laidInto (flattened m size) old .words ≡ viewWords (viewHolding (flatList m)) = ap (λ (o : Outcome). laidInto o old .words) f in
+              record { accepted = ok; few = few; is = ap viewOf (sym w ∙ g) ∙ words-view (viewHolding (flatList m)) (full few) }
+
+      go : (b : Bool) → cond b (laidInto (flattened m size) old) (record { reply = plain 27; words = old }) ≡ record { reply = accepted; words = view } → Made m size view
+      go true e = of (ap (λ (x : flatten.Made). x .reply) e) (ap (λ (x : flatten.Made). x .words) e)
+      go false e = absurd (let f : plain 27 ≡ accepted = ap (λ (x : flatten.Made). x .reply) e in let z : _≡_ {A = ℕ} 0 1 = cc in omega arith)
