@@ -1,28 +1,8 @@
 //! The library's calls over slices (include/wicktumble.h).
 
-#[rustfmt::skip]
-extern "C" {
-    fn wt_read_sheet(sheet: *const u8, sheet_len: usize, memory_length: u64,
-                     map: *mut u64, map_words: usize, result: *mut u64, result_words: usize) -> u64;
-    fn wt_check_map(map: *const u64, map_words: usize, memory_length: u64,
-                    result: *mut u64, result_words: usize) -> u64;
-    fn wt_walk(map: *const u64, map_words: usize, memory_length: u64, address: u64,
-               result: *mut u64, result_words: usize) -> u64;
-    fn wt_flatten(map: *const u64, map_words: usize, memory_length: u64,
-                  view: *mut u64, view_words: usize, result: *mut u64, result_words: usize) -> u64;
-    fn wt_route(view: *const u64, view_words: usize, memory_length: u64,
-                device: *const u64, device_words: usize, address: u64, width: u64,
-                result: *mut u64, result_words: usize) -> u64;
-    fn wt_route_all(view: *const u64, view_words: usize, memory_length: u64,
-                    device: *const u64, device_words: usize, accesses: *const u64, access_words: usize,
-                    answers: *mut u64, answer_words: usize) -> u64;
-    fn wt_step(view: *const u64, view_words: usize, device: *mut u64, device_words: usize,
-               queue: *mut u64, queue_words: usize, memory: *mut u8, memory_len: usize,
-               result: *mut u64, result_words: usize) -> u64;
-    fn wt_run(view: *const u64, view_words: usize, device: *mut u64, device_words: usize,
-              queue: *mut u64, queue_words: usize, memory: *mut u8, memory_len: usize, k: u64,
-              result: *mut u64, result_words: usize) -> u64;
-}
+#[path = "../include/wicktumble.rs"]
+mod wicktumble;
+use wicktumble::*;
 
 pub type Answer = (u64, [u64; 3]);
 

@@ -34,6 +34,7 @@ fn all_rows() -> Vec<Row> {
         rows::step,
         rows::run,
         rows::long_elements,
+        rows::long_chains,
         rows::worst,
     ];
     rows.into_iter().flat_map(|of| of()).collect()
@@ -138,6 +139,22 @@ fn fairness(report: &mut Report) {
     ));
 }
 
+/// The longest call: a run of 256 of the longest steps.
+fn longest_run(report: &mut Report) {
+    for (over, managed) in [("RAM", false), ("managed memory", true)] {
+        let mut guest = stages::long_chain(managed, 256, 256);
+        let ns = measure::few(&mut || {
+            guest.offer(256);
+            assert!(rows::library_run(&mut guest) == (0, [256, 1, 0]));
+        });
+        let line = format!(
+            "`wt_run` of 256 steps of 256 elements over 256 ranges of {over}: {}.",
+            time(Some(ns))
+        );
+        report.say(&format!("\n{line}"));
+    }
+}
+
 const MAPS: &str = "
 ## Maps
 
@@ -171,6 +188,13 @@ const RUN: &str = "
 
 const LENGTHS: &str = "
 ## A step by the length of its element
+";
+
+const LONGEST: &str = "
+## The longest steps
+
+What a guest can make a step last: the last element has room for the response, every other goes over all ranges but the
+queue's.
 ";
 
 const TOWERS: &str = "
@@ -214,6 +238,9 @@ fn report() {
     report.table("same checks", rows::run());
     report.say(LENGTHS);
     report.table("same checks", rows::long_elements());
+    report.say(LONGEST);
+    report.table("same checks", rows::long_chains());
+    longest_run(&mut report);
     report.say(TOWERS);
     towers::towers(&mut report);
     stack(&mut report);

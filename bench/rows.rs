@@ -267,6 +267,27 @@ pub fn long_elements() -> Vec<Row> {
     rows
 }
 
+/// The longest steps: elements, ranges, and what the ranges are.
+const LONGEST: [(u16, u64, bool); 6] = [
+    (2, 256, false),
+    (256, 4, true),
+    (256, 16, true),
+    (256, 64, true),
+    (256, 256, false),
+    (256, 256, true),
+];
+
+/// A step by the elements of its chain, each over all ranges but one.
+pub fn long_chains() -> Vec<Row> {
+    let row = |(elements, ranges, managed)| {
+        let over = if managed { "managed, 1,024 blocks each" } else { "RAM" };
+        let name = format!("{elements} elements over {ranges} ranges ({over})");
+        let make = Rc::new(move || stages::long_chain(managed, ranges, elements));
+        Row { calls: 4, ..step_row(name, String::new(), make, vec![]) }
+    };
+    LONGEST.into_iter().map(row).collect()
+}
+
 // -------------------------------------------------------------------------------------------------- maps
 
 type OverMap = fn(&Map, &mut [u64]) -> Answer;

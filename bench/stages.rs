@@ -203,6 +203,41 @@ fn long_guest_in(runs: Vec<Run>, length: u32, mut memory: Vec<u8>) -> Guest {
     Guest::new(&runs, device, start, memory, place)
 }
 
+/// The longest chain that a guest can lay: `elements` of them, all but the last readable and each over all `ranges`
+/// but the queue's own, which is the last. All 256 entries of the ring lead to it.
+pub fn long_chain(managed: bool, ranges: u64, elements: u16) -> Guest {
+    let part = if managed { 1024 * BLOCK } else { BLOCK };
+    let (kind, nodes) = if managed { (MANAGED, 1) } else { (RAM, 31) };
+    let run = |i| Run {
+        first: i * part,
+        last: (i + 1) * part - 1,
+        node: i % nodes,
+        offset: 0,
+        kind,
+        base: 0,
+    };
+    let start = 1 << 40;
+    let queue =
+        Run { first: start, last: start + 65535, node: 31, offset: 0, kind: RAM, base: part };
+    let runs: Vec<Run> = (0..ranges - 1).map(run).chain([queue]).collect();
+    let mut memory = vec![0u8; part as usize + 65536];
+    memory[0..2].copy_from_slice(&3u16.to_le_bytes()); // STATE of one block
+    memory[16..18].copy_from_slice(&1u16.to_le_bytes());
+    for i in 0..elements {
+        let last = i + 1 == elements;
+        let (address, length) = if last { (start + 0x9000, 10) } else { (0, (ranges - 1) * part) };
+        let at = part as usize + 16 * usize::from(i);
+        memory[at..at + 8].copy_from_slice(&address.to_le_bytes());
+        memory[at + 8..at + 12].copy_from_slice(&(length as u32).to_le_bytes());
+        memory[at + 12..at + 14].copy_from_slice(&(if last { 2u16 } else { 1 }).to_le_bytes());
+        memory[at + 14..at + 16].copy_from_slice(&(i + 1).to_le_bytes());
+    }
+    let blocks = 1024 * BLOCK;
+    let mut device = model::Device::fresh(BLOCK, 0, blocks, blocks, blocks).unwrap();
+    device.plugged.fill(true);
+    Guest::new(&runs, device, start, memory, part as usize)
+}
+
 // --------------------------------------------------------------------------------------------------- maps
 
 /// A map and the length of its memory.

@@ -1,29 +1,8 @@
 //! The functions of include/wicktumble.h, on slices, for the tests in Rust.
 #![allow(dead_code)]
 
-mod raw {
-        extern "C" {
-        pub fn wt_read_sheet(sheet: *const u8, sheet_len: usize, memory_length: u64, map: *mut u64, map_words: usize, result: *mut u64, result_words: usize) -> u64;
-        pub fn wt_check_map(map: *const u64, map_words: usize, memory_length: u64, result: *mut u64, result_words: usize) -> u64;
-        pub fn wt_walk(map: *const u64, map_words: usize, memory_length: u64, address: u64, result: *mut u64, result_words: usize) -> u64;
-        pub fn wt_flatten(map: *const u64, map_words: usize, memory_length: u64, view: *mut u64, view_words: usize, result: *mut u64, result_words: usize) -> u64;
-        pub fn wt_set_up(map: *const u64, map_words: usize, memory_length: u64, block_size: u64, addr: u64, usable_size: u64, requested_size: u64, device: *mut u64, device_words: usize, result: *mut u64, result_words: usize) -> u64;
-        pub fn wt_set_requested_size(device: *mut u64, device_words: usize, size: u64) -> u64;
-        pub fn wt_pin(device: *mut u64, device_words: usize, block: u64) -> u64;
-        pub fn wt_unpin(device: *mut u64, device_words: usize, block: u64) -> u64;
-        pub fn wt_system_reset(device: *mut u64, device_words: usize) -> u64;
-        pub fn wt_configuration(device: *const u64, device_words: usize, bytes: *mut u8, bytes_len: usize) -> u64;
-        pub fn wt_request(device: *mut u64, device_words: usize, request: *const u8, request_len: usize, response: *mut u8, response_len: usize) -> u64;
-        pub fn wt_block_of_byte(device: *const u64, device_words: usize, offset: u64, result: *mut u64, result_words: usize) -> u64;
-        pub fn wt_look_up(view: *const u64, view_words: usize, memory_length: u64, address: u64, result: *mut u64, result_words: usize) -> u64;
-        pub fn wt_route_all(view: *const u64, view_words: usize, memory_length: u64, device: *const u64, device_words: usize, accesses: *const u64, access_words: usize, answers: *mut u64, answer_words: usize) -> u64;
-        pub fn wt_route(view: *const u64, view_words: usize, memory_length: u64, device: *const u64, device_words: usize, address: u64, width: u64, result: *mut u64, result_words: usize) -> u64;
-        pub fn wt_make_queue(size: u64, descriptors: u64, available: u64, used: u64, queue: *mut u64, queue_words: usize) -> u64;
-        pub fn wt_reset_queue(queue: *mut u64, queue_words: usize) -> u64;
-        pub fn wt_step(view: *const u64, view_words: usize, device: *mut u64, device_words: usize, queue: *mut u64, queue_words: usize, memory: *mut u8, memory_len: usize, result: *mut u64, result_words: usize) -> u64;
-        pub fn wt_run(view: *const u64, view_words: usize, device: *mut u64, device_words: usize, queue: *mut u64, queue_words: usize, memory: *mut u8, memory_len: usize, k: u64, result: *mut u64, result_words: usize) -> u64;
-    }
-}
+#[path = "../include/wicktumble.rs"]
+mod raw;
 
 pub fn read_sheet(s: &[u8], length: u64, m: &mut [u64], r: &mut [u64]) -> u64 {
     unsafe {

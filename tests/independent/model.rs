@@ -1,4 +1,4 @@
-//! Document 01 (/work/shared/papers/01-scope.md) written out plainly, from the paper alone.
+//! Document 01 (the paper of rules: docs/REFUSALS.md has what it says) written out plainly, from the paper alone.
 //!
 //! Nothing here is fast or clever on purpose; it is meant to be read beside the paper. The first part
 //! holds the rules on plain structs. The second part (`calls`) has one function per call of
@@ -1289,7 +1289,8 @@ pub mod calls {
         }
         let Some((runs, device)) = routing(view, memory_length, device) else { return 27 };
         for (access, answer) in accesses.chunks(2).zip(answers.chunks_mut(4)) {
-            let (number, words) = routed(super::route(&runs, device.as_ref(), access[0], access[1]));
+            let (number, words) =
+                routed(super::route(&runs, device.as_ref(), access[0], access[1]));
             answer[0] = number;
             answer[1..].copy_from_slice(&words);
         }
