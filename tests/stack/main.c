@@ -29,15 +29,18 @@ static void *set_up(void *x) {
 }
 static void deep(void) { /* 31 containers inside one another and a RAM region in the innermost */
     memset(map, 0, sizeof map);
-    map[0] = 32;
-    for (int i = 0; i < 32; i++) {
-        uint64_t *r = map + 1 + 9 * i;
-        r[0] = i == 0; /* kind */
-        r[1] = i == 31 ? 0 : i + 2; /* parent + 1 */
-        r[3] = 0x4000;
+    map[WT_MAP_COUNT] = WT_REGIONS;
+    for (int i = 0; i < WT_REGIONS; i++) {
+        uint64_t *r = map + WT_MAP_REGION(i);
+        r[WT_REGION_KIND] = i == 0 ? WT_KIND_RAM : WT_KIND_CONTAINER;
+        r[WT_REGION_PARENT] = i == WT_REGIONS - 1 ? 0 : i + 2;
+        r[WT_REGION_SIZE] = 0x4000;
     }
 }
 static void *pin(void *x) { wt_pin(device, WT_DEVICE, 0); return x; }
+static void *unpin(void *x) { wt_unpin(device, WT_DEVICE, 0); return x; }
+static void *resize(void *x) { wt_set_requested_size(device, WT_DEVICE, 0x8000); return x; }
+static void *system_reset(void *x) { wt_system_reset(device, WT_DEVICE); return x; }
 static void *configuration(void *x) { wt_configuration(device, WT_DEVICE, bytes, 56); return x; }
 static void *request(void *x) {
     static const uint8_t plug[24] = {[9] = 0x80, [16] = 1};
@@ -56,6 +59,7 @@ static void *route_all(void *x) {
     return x;
 }
 static void *make_queue(void *x) { wt_make_queue(4, 0x1000, 0x1040, 0x1080, queue, WT_QUEUE); return x; }
+static void *reset_queue(void *x) { wt_reset_queue(queue, WT_QUEUE); return x; }
 static void offer(void) { /* one PLUG of a block, as examples/plug.c puts it */
     memset(memory, 0, sizeof memory);
     uint8_t *d = memory + 0x1000;
@@ -92,22 +96,23 @@ int main(void) {
     size_t base = depth(nothing);
     struct { const char *name; void *(*call)(void *); } calls[] = {
         {"wt_read_sheet", read_sheet}, {"wt_check_map", check_map}, {"wt_walk", walk}, {"wt_flatten", flatten},
-        {"wt_set_up", set_up}, {"wt_pin", pin}, {"wt_configuration", configuration},
-        {"wt_request", request}, {"wt_block_of_byte", block_of_byte},
-        {"wt_route", route}, {"wt_route_all", route_all}, {"wt_look_up", look_up},
-        {"wt_make_queue", make_queue}, {"wt_step", step}, {"wt_run", run}};
+        {"wt_set_up", set_up}, {"wt_set_requested_size", resize}, {"wt_request", request}, {"wt_pin", pin},
+        {"wt_unpin", unpin}, {"wt_configuration", configuration}, {"wt_block_of_byte", block_of_byte},
+        {"wt_route", route}, {"wt_route_all", route_all}, {"wt_look_up", look_up}, {"wt_system_reset", system_reset},
+        {"wt_make_queue", make_queue}, {"wt_reset_queue", reset_queue}, {"wt_step", step}, {"wt_run", run}};
     for (size_t i = 0; i < sizeof calls / sizeof *calls; i++) {
         if (calls[i].call == step || calls[i].call == run) {
+            system_reset(NULL);
             make_queue(NULL);
             offer();
         }
         size_t used = depth(calls[i].call);
-        printf("%-18s %7zu bytes%s\n", calls[i].name, used > base ? used - base : 0,
+        printf("%-21s %7zu bytes%s\n", calls[i].name, used > base ? used - base : 0,
                calls[i].call == step || calls[i].call == run ? (result[0] == 1 ? " (one chain served)" : " (NOT SERVED)") : "");
     }
     deep();
     size_t walked = depth(walk_deep), flat = depth(flatten);
-    printf("%-18s %7zu bytes at 32 levels%s\n", "wt_walk", walked - base, result[0] == 0 ? "" : " (REFUSED)");
-    printf("%-18s %7zu bytes at 32 levels%s\n", "wt_flatten", flat - base, view[0] == 1 ? "" : " (NOT ONE RANGE)");
+    printf("%-21s %7zu bytes at 32 levels%s\n", "wt_walk", walked - base, result[0] == 0 ? "" : " (REFUSED)");
+    printf("%-21s %7zu bytes at 32 levels%s\n", "wt_flatten", flat - base, view[0] == 1 ? "" : " (NOT ONE RANGE)");
     return 0;
 }
