@@ -1,7 +1,7 @@
 // Setting the device up from a given map.
 ghost use mathlib.Core.Path.{_≡_};
 ghost use Rattle.map_records.specs.Words.{mapOf};
-ghost use Rattle.region_map.specs.Span.{Counted};
+ghost use Rattle.region_map.specs.Contracts.{Counted};
 ghost use Rattle.memory_device.specs.SetUp.{regionSize, setUp, setUpReply, outcomeOf};
 ghost use Rattle.region_map.specs.Reply.{numberOf};
 use crate::device::MemoryDevice;

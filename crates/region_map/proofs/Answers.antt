@@ -1,12 +1,15 @@
--- The check's promise fixes its answer: two answers with one number and the same nodes are equal. Assumes nothing.
+-- A promise over document 01's numbers fixes the answer, of the check and of making the view: two answers with one number and the same nodes are equal. Assumes nothing.
 use mathlib.Core.Path.{_≡_, refl, sym, ap, _∙_}
 use mathlib.Core.Bool.{cond}
 use Prim.Native.Nat.{ℕ}
 use lib.Dec.{eqb}
 use Rattle.region_map.specs.Reply.{Reply, accepted, nodes, place, plain}
 use Rattle.region_map.specs.Check.{reply}
+use Rattle.region_map.specs.Flatten.{flatReply}
 use Rattle.region_map.specs.declared.check.MapAnswer.{MapAnswer}
 use Rattle.region_map.specs.declared.check.MapAnswer.the-variants as answer
+use Rattle.region_map.specs.declared.view.FlatAnswer.{FlatAnswer}
+use Rattle.region_map.specs.declared.view.FlatAnswer.the-variants.{Checked, TooMany, Record}
 
 -- the answer of a number with its nodes
 abbrev pub answerOf : Reply → MapAnswer
@@ -34,3 +37,29 @@ reply-back (answer.Overlap i j) = refl
 
 pub reply-injective : (a b : MapAnswer) → reply a ≡ reply b → a ≡ b
 reply-injective a b e = sym (reply-back a) ∙ ap answerOf e ∙ reply-back b
+
+-- the check accepts, or gives a number with two nodes: what holds of both holds of its answer
+pub reply-form : (P : Reply → Type 0) → P accepted → ((k i j : ℕ) → P (nodes k i j)) → (a : MapAnswer) → P (reply a)
+reply-form P x f answer.Accepted = x
+reply-form P x f answer.Count = f 3 0 0
+reply-form P x f (answer.Kind n) = f 4 n n
+reply-form P x f (answer.Field n) = f 6 n n
+reply-form P x f (answer.Link n) = f 7 n n
+reply-form P x f (answer.Memory i j) = f 8 i j
+reply-form P x f (answer.Managed i j) = f 9 i j
+reply-form P x f (answer.Port i j) = f 10 i j
+reply-form P x f (answer.Overlap i j) = f 11 i j
+
+abbrev flatAnswerOf : Reply → FlatAnswer
+flatAnswerOf accepted = Checked (answerOf accepted)
+flatAnswerOf (nodes k i j) = Checked (answerOf (nodes k i j))
+flatAnswerOf (place k p) = Record
+flatAnswerOf (plain k) = cond (eqb k 12) TooMany Record
+
+flat-back : (a : FlatAnswer) → flatAnswerOf (flatReply a) ≡ a
+flat-back (Checked a) = reply-form (λ r. flatAnswerOf r ≡ Checked (answerOf r)) refl (λ k i j. refl) a ∙ ap Checked (reply-back a)
+flat-back TooMany = refl
+flat-back Record = refl
+
+pub flat-reply-injective : (a b : FlatAnswer) → flatReply a ≡ flatReply b → a ≡ b
+flat-reply-injective a b e = sym (flat-back a) ∙ ap flatAnswerOf e ∙ flat-back b

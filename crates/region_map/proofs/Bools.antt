@@ -51,6 +51,11 @@ pub and-right : (a b : Bool) → (a && b) ≡ false → a ≡ true → b ≡ fal
 and-right true b e t = e
 and-right false b e t = absurd (let z : _≡_ {A = ℕ} 0 1 = cc in omega arith)
 
+pub and-no : (a b : Bool) → (a ≡ true → b ≡ true → ⊥) → (a && b) ≡ false
+and-no true true h = absurd (h refl refl)
+and-no true false h = refl
+and-no false b h = refl
+
 pub and-true : (a b : Bool) → a ≡ true → b ≡ true → (a && b) ≡ true
 and-true a b p q = rw (p, q)
 

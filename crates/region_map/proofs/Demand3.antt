@@ -28,7 +28,8 @@ use Rattle.map_records.specs.declared.view.FlatRange.{FlatRange}
 use Rattle.region_map.specs.declared.flat.Backing.{Backing}
 use Rattle.region_map.proofs.Accepted.{accepted-sound}
 use Rattle.region_map.proofs.WalkLaws.{past}
-use Rattle.region_map.proofs.LeafLaws.{LeafOf, root-leaf}
+use Rattle.region_map.proofs.LeafLaws.{root-leaf}
+use Rattle.region_map.specs.Visibility.{LeafOf}
 use Rattle.region_map.proofs.FlatLaws.{flat-gives, flat-beyond, flat-longest}
 use Rattle.region_map.proofs.UniqueLaws.{unique, sound, here, later, low}
 
@@ -134,7 +135,7 @@ module _ (m : RegionMap) (memory : ℕ) (ok : Accepted m memory) where
         order = order;
         last = omega arith;
         offset = omega arith;
-        memory = λ q.
+        bytes = λ q.
             let other : region m (r .region) .kind ≡ mmio → ⊥ = λ z. q (e .kind ∙ z) in
             let base : r .base ≡ region m (r .region) .«memory_start» = e .base ∙ rw (ne-eqb (region m (r .region) .kind) mmio other) in
             let end = s .ends (r .region) below (held (region m (r .region) .kind) (leaf .kinds) other) in

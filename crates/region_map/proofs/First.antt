@@ -22,6 +22,9 @@ then-right (nodes k i j) b e = absurd (let z : _≡_ {A = ℕ} 0 1 = cc in omega
 then-right (place k p) b e = absurd (let z : _≡_ {A = ℕ} 0 1 = cc in omega arith)
 then-right (plain k) b e = absurd (let z : _≡_ {A = ℕ} 0 1 = cc in omega arith)
 
+pub then-both : (a b : Reply) → a ≡ accepted → b ≡ accepted → (a then b) ≡ accepted
+then-both a b p q = rw (p, q)
+
 module _ (f : ℕ → Reply) where
   pub first-none : (n : ℕ) → ((i : ℕ) → i < n → f i ≡ accepted) → first f n ≡ accepted
   unfolding first
@@ -52,6 +55,13 @@ chosen b x e = rw e
 pub taken : (b : Bool) (x : Reply) → b ≡ true → cond b x accepted ≡ x
 taken b x e = rw e
 
+pub refused : (k i j : ℕ) → nodes k i j ≡ accepted → ⊥
+refused k i j e = let z : _≡_ {A = ℕ} 0 1 = cc in omega arith
+
+pub unchosen : (b : Bool) (x : Reply) → (x ≡ accepted → ⊥) → cond b x accepted ≡ accepted → b ≡ false
+unchosen true x h e = absurd (h e)
+unchosen false x h e = refl
+
 module _ (f : ℕ → Bool) (k : ℕ) where
   pub lowest-none : (n : ℕ) → ((i : ℕ) → i < n → f i ≡ false) → lowest k f n ≡ accepted
   unfolding lowest
@@ -66,11 +76,7 @@ module _ (f : ℕ → Bool) (k : ℕ) where
 
   pub lowest-all : (n : ℕ) → lowest k f n ≡ accepted → (i : ℕ) → i < n → f i ≡ false
   unfolding lowest
-  lowest-all n e i p = go (f i) (first-all (λ i. cond (f i) (nodes k i i) accepted) n e i p)
-    where
-      go : (b : Bool) → cond b (nodes k i i) accepted ≡ accepted → b ≡ false
-      go true q = absurd (let z : _≡_ {A = ℕ} 0 1 = cc in omega arith)
-      go false q = refl
+  lowest-all n e i p = unchosen (f i) (nodes k i i) (refused k i i) (first-all (λ i. cond (f i) (nodes k i i) accepted) n e i p)
 
 module _ (f : ℕ → ℕ → Bool) (k n : ℕ) where
   abbrev cell : ℕ → ℕ → Reply
@@ -99,8 +105,5 @@ module _ (f : ℕ → ℕ → Bool) (k n : ℕ) where
 
   pub pair-all : firstPair k f n ≡ accepted → (i j : ℕ) → i < j → j < n → f i j ≡ false
   unfolding firstPair pairsOf
-  pair-all e i j p q = go (f i j) (rw (lt-ltb i j p) at (first-all (cell i) n (first-all (pairsOf k f n) n e i (omega arith)) j q))
-    where
-      go : (b : Bool) → cond (true && b) (nodes k i j) accepted ≡ accepted → b ≡ false
-      go true r = absurd (let z : _≡_ {A = ℕ} 0 1 = cc in omega arith)
-      go false r = refl
+  pair-all e i j p q =
+      unchosen (f i j) (nodes k i j) (refused k i j) (rw (lt-ltb i j p) at (first-all (cell i) n (first-all (pairsOf k f n) n e i (omega arith)) j q))

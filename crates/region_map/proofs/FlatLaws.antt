@@ -13,7 +13,7 @@ use Rattle.region_map.specs.declared.resolve.Resolved.the-variants.{Noth
 use Rattle.region_map.specs.declared.flat.Backing.{Backing}
 use Rattle.map_records.specs.declared.view.FlatRange.{FlatRange}
 use Rattle.region_map.specs.FlatList.{rangeAt, Joined, joins, grown, after, push, extend, flat, inside, answerOf, lookup}
-use Rattle.region_map.specs.Span.{shift}
+use Rattle.region_map.specs.Contracts.{shift}
 use Rattle.region_map.specs.FlatList.{Entry, Follows, Chain, Longest}
 use Rattle.region_map.proofs.RangeTests.{Is, on, off, is, inside-on, inside-before, inside-beyond}
 use Rattle.region_map.proofs.PushLaws.{Under, after-on, after-off, push-push, lookup-push, longest-push, under-more, under-push}

@@ -3,7 +3,7 @@ use mathlib.Core.Path.{_≡_, subst}
 use mathlib.Core.Bool.{Bool}
 use Prim.Native.Nat.{ℕ}
 use Rattle.region_map.specs.Reply.{accepted, nodes, lowest, firstPair}
-use Rattle.region_map.specs.Check.{LowestIs, FirstIs}
+use Rattle.region_map.specs.Contracts.{LowestIs, FirstIs}
 use Rattle.region_map.specs.declared.search.Lowest.{Lowest}
 use Rattle.region_map.specs.declared.search.Lowest.the-variants.{Node, Nothing}
 use Rattle.region_map.specs.declared.search.Pair.{Pair}

@@ -5,9 +5,10 @@ use Prim.Native.Nat.{ℕ, zero, suc, _+_, _-_, _%_, _≤_, _<_}
 use native.Mathlib.Omega.{arith}
 use borrow.Author.Tests.{eqb-true, eqb-false, leb-false}
 use lib.Dec.{eqb, leb}
-use Rattle.map_records.specs.Map.{container, ram, mmio, alias, managed, region}
+use Rattle.map_records.specs.Map.{container, alias, region}
 use Rattle.region_map.specs.Check.{Accepted}
 use Rattle.region_map.specs.Sound.{Sound}
+use Rattle.region_map.specs.Visibility.{LeafOf}
 use Rattle.region_map.specs.Walk.{ranked, orElse, holds, asked, own, answer, tried, visit, walkBelow, walk, walkRoot}
 use Rattle.map_records.specs.declared.map.RegionMap.{RegionMap}
 use Rattle.map_records.specs.declared.map.RegionOffset.{RegionOffset}
@@ -83,16 +84,11 @@ module _ (m : RegionMap) where
   unfolding walk
   in-walk n a = in-visit (walkBelow m n) n (in-below n) a
 
--- from the root of an accepted map: RAM, MMIO or managed, inside the map and inside the region
-pub record LeafOf (m : RegionMap) (n o : ℕ) : Type 0 where
-  pub below : n < m .count
-  pub inside : o < region m n .size
-  pub kinds : (region m n .kind ≡ ram → ⊥) → (region m n .kind ≡ mmio → ⊥) → region m n .kind ≡ managed
-
-pub root-leaf : (m : RegionMap) (length : ℕ) → Accepted m length → (a n : ℕ) (o : RegionOffset) → walkRoot m a ≡ At n o → LeafOf m n (o .0)
+-- from the root of an accepted map
+pub root-leaf : (m : RegionMap) (memory : ℕ) → Accepted m memory → (a n : ℕ) (o : RegionOffset) → walkRoot m a ≡ At n o → LeafOf m n (o .0)
 unfolding walkRoot
-root-leaf m length ok a n o e =
-    let s = accepted-sound m length ok in
+root-leaf m memory ok a n o e =
+    let s = accepted-sound m memory ok in
     let some = s .some in
     let w : Leaf m (suc (m .count - 1)) n (o .0) = subst (Within m (suc (m .count - 1))) e (in-walk m (m .count - 1) a) in
     let low : n < m .count = omega (arith, w .below) in

@@ -11,7 +11,7 @@ use Rattle.map_records.proofs.Order.{eq-or-not}
 use Rattle.map_records.proofs.WordLaws.{map-other}
 use Rattle.region_map.specs.Reply.{Reply, accepted, nodes, place, plain}
 use Rattle.region_map.specs.Check.{judged, Accepted}
-use Rattle.region_map.specs.Span.{Tree}
+use Rattle.region_map.specs.Contracts.{Tree}
 use Rattle.region_map.specs.Walk.{walk, walkRoot}
 use Rattle.region_map.proofs.Accepted.{accepted-sound, accepted-walkable}
 

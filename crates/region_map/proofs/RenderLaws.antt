@@ -12,16 +12,14 @@ use lib.Dec.{leb, ltb}
 use lib.ListN.{length}
 use Rattle.map_records.specs.Map.{region}
 use Rattle.region_map.specs.Walk.{ranked, orElse, answer, tried, walkBelow, walk, walkRoot}
-use Rattle.region_map.specs.Span.{shift, Walkable, NextChild}
+use Rattle.region_map.specs.Contracts.{shift, Walkable, NextChild, Grew, Pushed}
 use Rattle.region_map.specs.FlatList.{extend, flat}
-use Rattle.region_map.specs.Flatten.{Grew}
 use Rattle.region_map.specs.Pieces.{countOf, horizonOf, startOf, firstOf, endOf, regionOf, offsetOf, window, itself, pieceGives, given, shown, Pieces, Behind, Whole}
 use Rattle.map_records.specs.declared.map.Region.{Region}
 use Rattle.map_records.specs.declared.map.RegionMap.{RegionMap}
 use Rattle.region_map.specs.declared.resolve.Resolved.{Resolved}
 use Rattle.region_map.specs.declared.resolve.Resolved.the-variants.{Nothing, At}
 use Rattle.region_map.specs.declared.flat.Backing.{Backing}
-use Rattle.region_map.specs.Flatten.{Pushed}
 use Rattle.map_records.specs.declared.view.FlatRange.{FlatRange}
 use Rattle.region_map.proofs.WalkLaws.{past, child-at, child-before, walk-alias, walk-inside, own-is, own-none, tried-none, tried-next}
 use Rattle.region_map.proofs.WindowLaws.{window-in, window-before, window-past, or-nothing}

@@ -10,10 +10,10 @@ use Rattle.map_records.specs.declared.map.RegionMap.{RegionMap}
 use Rattle.region_map.specs.declared.resolve.Resolved.{Resolved}
 use Rattle.region_map.proofs.Replies.{refused-first}
 
-pub led : (m : RegionMap) (length a : ℕ) (x : Resolved) → Accepted m length → x ≡ walkRoot m a → leads x ≡ resolved m length a
+pub led : (m : RegionMap) (memory a : ℕ) (x : Resolved) → Accepted m memory → x ≡ walkRoot m a → leads x ≡ resolved m memory a
 unfolding resolved Accepted
-led m length a x ok e = rw (ok, e)
+led m memory a x ok e = rw (ok, e)
 
-pub not-led : (m : RegionMap) (length a : ℕ) (r : Reply) → r ≡ judged m length → passes r ≡ false → refused r ≡ resolved m length a
+pub not-led : (m : RegionMap) (memory a : ℕ) (r : Reply) → r ≡ judged m memory → passes r ≡ false → refused r ≡ resolved m memory a
 unfolding resolved
-not-led m length a r e p = refused-first refused (leads (walkRoot m a)) r (judged m length) e p
+not-led m memory a r e p = refused-first refused (leads (walkRoot m a)) r (judged m memory) e p

@@ -18,10 +18,9 @@ use Rattle.region_map.specs.declared.resolve.Resolved.the-variants.{Noth
 use Rattle.region_map.specs.declared.flat.Backing.{Backing}
 use Rattle.map_records.specs.declared.view.FlatRange.{FlatRange}
 use Rattle.map_records.specs.declared.view.FlatView.{FlatView}
-use Rattle.region_map.specs.Flatten.{Pushed}
+use Rattle.region_map.specs.Contracts.{Pushed, shift, Blank, Grew}
 use Rattle.region_map.specs.FlatList.{joins, grown, after, push, extend, flat, lookup}
-use Rattle.region_map.specs.Span.{shift}
-use Rattle.region_map.specs.Flatten.{Blank, Grew, viewHolding}
+use Rattle.region_map.specs.Flatten.{viewHolding}
 use Rattle.map_records.specs.View.{entries, noRange}
 use Rattle.region_map.proofs.PushLaws.{after-on, after-off}
 use Rattle.region_map.proofs.FlatLaws.{flat-grows, sweep-step}

@@ -16,7 +16,8 @@ use Rattle.map_records.specs.declared.map.RegionMap.{RegionMap}
 use Rattle.region_map.specs.Reply.{Reply, accepted, plain, passes}
 use Rattle.region_map.specs.Check.{judged, Accepted}
 use Rattle.region_map.specs.FlatList.{joins, grown, push}
-use Rattle.region_map.specs.Flatten.{viewHolding, Outcome, refusal, listed, flatList, flattened, Made, laidInto, flattenedInto, Viewed, Pushed, Grew, Grows, Blank}
+use Rattle.region_map.specs.Flatten.{viewHolding, Outcome, refusal, listed, flatList, flattened, Made, laidInto, flattenedInto}
+use Rattle.region_map.specs.Contracts.{Viewed, Pushed, Grew, Grows, Blank}
 use Rattle.region_map.proofs.Replies.{refused-first}
 use Rattle.region_map.proofs.ViewLaws.{grew, added, refused, blank-grown, blank-added, whole-view}
 

@@ -1,10 +1,10 @@
--- The walk by source 001's rules of visibility, with no word of ranks: at a region of an accepted map, the child of the highest priority that answers wins; if none answers, the region itself. Assumes nothing.
+-- The walk keeps source 001's rules of visibility at every region of an accepted map, and is the only one that does. Assumes nothing.
 use mathlib.Core.Path.{_≡_, refl, sym, ap, _∙_}
 use mathlib.Core.Bool.{Bool, true, false, _&&_, cond}
 use mathlib.Core.Logic.{⊎-elim}
 use Prim.Native.Nat.{ℕ, zero, suc, _+_, _-_, _*_, _%_, _≤_, _<_}
 use native.Mathlib.Nat.{eq-or-lt-of-le}
-use native.Mathlib.Decide.{decLt}
+use native.Mathlib.Decide.{ℕ-discrete, decLt}
 use native.Mathlib.Omega.{arith}
 use lib.Dec.{eqb, leb, ltb}
 use borrow.Author.Tests.{eqb-true, leb-true, ltb-true, le-leb, lt-ltb}
@@ -12,25 +12,15 @@ use Rattle.map_records.specs.Map.{container, alias, region}
 use Rattle.region_map.specs.Clash.{priorityOf}
 use Rattle.region_map.specs.Check.{Accepted}
 use Rattle.region_map.specs.Sound.{Sound}
+use Rattle.region_map.specs.Visibility.{Holding, childAnswer, Visible}
 use Rattle.region_map.specs.Walk.{rank, child, ranked, orElse, holds, asked, own, answer, tried, walkBelow, walk}
 use Rattle.map_records.specs.declared.map.RegionMap.{RegionMap}
 use Rattle.map_records.specs.declared.map.RegionOffset.{RegionOffset}
 use Rattle.region_map.specs.declared.resolve.Resolved.{Resolved}
 use Rattle.region_map.specs.declared.resolve.Resolved.the-variants.{Nothing, At}
 use Rattle.region_map.proofs.Bools.{and-fst, and-snd}
-use Rattle.region_map.proofs.Accepted.{accepted-sound}
-use Rattle.region_map.proofs.WalkLaws.{rank-mod, is-ranked, walk-below, walk-inside, priority-le}
-
--- c is a child of n whose range holds the address a
-pub record Holding (m : RegionMap) (n a c : ℕ) : Type 0 where
-  pub below : c < n
-  pub parent : region m c .parent ≡ n + 1
-  pub from : region m c .offset ≤ a
-  pub to : a < region m c .offset + region m c .size
-
--- what such a child answers
-abbrev pub childAnswer : RegionMap → ℕ → ℕ → Resolved
-childAnswer m a c = walk m c (a - region m c .offset)
+use Rattle.region_map.proofs.Accepted.{accepted-sound, accepted-walkable}
+use Rattle.region_map.proofs.WalkLaws.{rank-mod, is-ranked, walk-below, walk-inside, walk-alias, past, priority-le}
 
 module _ (m : RegionMap) (u : ℕ → ℕ → Resolved) (n a : ℕ) where
   tried-wins : (b r k : ℕ) (o : RegionOffset) → r < b → answer m u n r a ≡ At k o → ((j : ℕ) → r < j → j < b → answer m u n j a ≡ Nothing) → tried m u n b a ≡ At k o
@@ -65,7 +55,7 @@ held m n a j p q =
 
 -- what stands at a rank: nothing, or the answer of the child that has it
 module _ (m : RegionMap) (n a j : ℕ) where
-  rank-answer : ((c : ℕ) → Holding m n a c → rank m c ≡ j → childAnswer m a c ≡ Nothing) → answer m (walkBelow m n) n j a ≡ Nothing
+  rank-answer : ((c : ℕ) → Holding m n a c → rank m c ≡ j → childAnswer m (walk m) a c ≡ Nothing) → answer m (walkBelow m n) n j a ≡ Nothing
   unfolding answer asked
   rank-answer f = go (ranked m n j) refl (holds m (j % 32) a) refl
     where
@@ -81,15 +71,15 @@ module _ (m : RegionMap) (n a j : ℕ) where
       go false p y q = refl
 
   -- and the answer of a child at its own rank
-  own-rank : (c : ℕ) → c < 32 → Holding m n a c → rank m c ≡ j → answer m (walkBelow m n) n j a ≡ childAnswer m a c
+  own-rank : (c : ℕ) → c < 32 → Holding m n a c → rank m c ≡ j → answer m (walkBelow m n) n j a ≡ childAnswer m (walk m) a c
   unfolding answer asked holds
   own-rank c l h e =
       rw (← e, is-ranked m n c (h .below) l (h .parent), rank-mod m c l, le-leb (region m c .offset) a (h .from), lt-ltb a (region m c .offset + region m c .size) (h .to))
       (walk-below m n c (a - region m c .offset) (h .below))
 
-module _ (m : RegionMap) (length : ℕ) (ok : Accepted m length) (n a : ℕ) (known : n < m .count) (kind : region m n .kind ≡ alias → ⊥) (inside : a < region m n .size) where
-  s : Sound m length
-  s = accepted-sound m length ok
+module _ (m : RegionMap) (memory : ℕ) (ok : Accepted m memory) (n a : ℕ) (known : n < m .count) (kind : region m n .kind ≡ alias → ⊥) (inside : a < region m n .size) where
+  s : Sound m memory
+  s = accepted-sound m memory ok
 
   rank-bound : (c : ℕ) → c < n → rank m c < 8192
   unfolding rank
@@ -111,8 +101,8 @@ module _ (m : RegionMap) (length : ℕ) (ok : Accepted m length) (n a : ℕ) (kn
           absurd (s .siblings c e less top (λ z. let y : n + 1 ≡ 0 = sym (p .parent) ∙ z in omega arith) (p .parent ∙ sym (q .parent)) same a (p .from) (p .to) (q .from) (q .to))
 
   -- 'in descending priority order': a child that answers wins, where every child of a higher priority that holds the address answers nothing
-  pub child-wins : (c k : ℕ) (o : RegionOffset) → Holding m n a c → childAnswer m a c ≡ At k o
-      → ((e : ℕ) → Holding m n a e → priorityOf (region m c) < priorityOf (region m e) → childAnswer m a e ≡ Nothing) → walk m n a ≡ At k o
+  child-wins : (c k : ℕ) (o : RegionOffset) → Holding m n a c → childAnswer m (walk m) a c ≡ At k o
+      → ((e : ℕ) → Holding m n a e → priorityOf (region m c) < priorityOf (region m e) → childAnswer m (walk m) a e ≡ Nothing) → walk m n a ≡ At k o
   unfolding s
   child-wins c k o h x f =
       let few = s .count in
@@ -122,5 +112,78 @@ module _ (m : RegionMap) (length : ℕ) (ok : Accepted m length) (n a : ℕ) (kn
       (λ j p q. rank-answer m n a j (λ e g r. f e g (higher c e h g (let z : rank m c < rank m e = omega arith in z))))
 
   -- 'if none of the subregions match': the region itself
-  pub none-wins : ((e : ℕ) → Holding m n a e → childAnswer m a e ≡ Nothing) → walk m n a ≡ own m n a
+  none-wins : ((e : ℕ) → Holding m n a e → childAnswer m (walk m) a e ≡ Nothing) → walk m n a ≡ own m n a
   none-wins f = walk-inside m n kind a inside ∙ tried-none m (walkBelow m n) n a 8192 (λ j q. rank-answer m n a j (λ e g r. f e g))
+
+-- all four cases
+pub visibility : (m : RegionMap) (memory : ℕ) → Accepted m memory → (n a : ℕ) → n < m .count → Visible m (walk m) n a
+visibility m memory ok n a known =
+    record {
+      outside = past m n a;
+      aliased = λ h e. walk-alias m (accepted-walkable m memory ok) n known e a h;
+      child = λ h e. child-wins m memory ok n a known e h;
+      none = λ h e. none-wins m memory ok n a known e h;
+    }
+
+-- the child at a rank that answers
+answering : (m : RegionMap) (n a j k : ℕ) (o : RegionOffset) → answer m (walkBelow m n) n j a ≡ At k o
+    → Holding m n a (j % 32) × (rank m (j % 32) ≡ j) × (childAnswer m (walk m) a (j % 32) ≡ At k o)
+unfolding answer asked
+answering m n a j k o = go (ranked m n j) refl (holds m (j % 32) a) refl
+  where
+    go : (x : Bool) → ranked m n j ≡ x → (y : Bool) → holds m (j % 32) a ≡ y
+        → cond x (cond y (walkBelow m n (j % 32) (a - region m (j % 32) .offset)) Nothing) Nothing ≡ At k o
+        → Holding m n a (j % 32) × (rank m (j % 32) ≡ j) × (childAnswer m (walk m) a (j % 32) ≡ At k o)
+    go true p true q e =
+        let is = held m n a j p q in
+        (is, ranked-rank m n j p, sym (walk-below m n (j % 32) (a - region m (j % 32) .offset) (is .below)) ∙ e)
+    go true p false q e = absurd (let z : _≡_ {A = ℕ} 0 1 = cc in omega arith)
+    go false p y q e = absurd (let z : _≡_ {A = ℕ} 0 1 = cc in omega arith)
+
+-- a higher priority is a higher rank
+rank-above : (m : RegionMap) (c e : ℕ) → c < 32 → priorityOf (region m c) < priorityOf (region m e) → rank m c < rank m e
+unfolding rank
+rank-above m c e l p = omega arith
+
+-- the rules leave no choice: a walk that keeps them at every region is this one
+module _ (m : RegionMap) (memory : ℕ) (ok : Accepted m memory) (f : ℕ → ℕ → Resolved) (rules : (n a : ℕ) → n < m .count → Visible m f n a) where
+  module _ (n a : ℕ) (known : n < m .count) (lower : (c x : ℕ) → c < n → f c x ≡ walk m c x) (inside : a < region m n .size) (kind : region m n .kind ≡ alias → ⊥) where
+    -- a child whose rank answers nothing answers nothing
+    silent : (e : ℕ) → Holding m n a e → answer m (walkBelow m n) n (rank m e) a ≡ Nothing → childAnswer m f a e ≡ Nothing
+    silent e h q =
+        let few = accepted-sound m memory ok .count in
+        let below = h .below in
+        let l : e < 32 = omega arith in
+        lower e (a - region m e .offset) below ∙ sym (own-rank m n a (rank m e) e l h refl) ∙ q
+
+    by-ranks : (r : ℕ) → ((e : ℕ) → Holding m n a e → r ≤ rank m e → answer m (walkBelow m n) n (rank m e) a ≡ Nothing) → f n a ≡ tried m (walkBelow m n) n r a
+    unfolding tried
+    by-ranks zero above = rules n a known .none inside kind (λ e h. silent e h (above e h (omega arith)))
+    by-ranks (suc r) above = go (answer m (walkBelow m n) n r a) refl (by-ranks r)
+      where
+        go : (x : Resolved) → answer m (walkBelow m n) n r a ≡ x
+            → (((e : ℕ) → Holding m n a e → r ≤ rank m e → answer m (walkBelow m n) n (rank m e) a ≡ Nothing) → f n a ≡ tried m (walkBelow m n) n r a)
+            → f n a ≡ orElse x (tried m (walkBelow m n) n r a)
+        go Nothing q ih = ih (λ e h l.
+            ⊎-elim (λ (s : r ≡ rank m e). ap (λ (j : ℕ). answer m (walkBelow m n) n j a) (sym s) ∙ q) (λ (s : r < rank m e). above e h s)
+            (eq-or-lt-of-le {n = r} {m = rank m e} l))
+        go (At k o) q ih =
+            let won = answering m n a r k o q in
+            rules n a known .child inside kind (r % 32) k o (won .0) (lower (r % 32) (a - region m (r % 32) .offset) (won .0 .below) ∙ won .2)
+            (λ e h p. silent e h (above e h (let z = rank-above m (r % 32) e (omega arith) p in let y = won .1 in omega arith)))
+
+  only-below : (k n a : ℕ) → n < k → n < m .count → f n a ≡ walk m n a
+  only-below zero n a h known = absurd (omega arith)
+  only-below (suc k) n a h known =
+      go (λ c x l. only-below k c x (omega arith) (omega arith)) (decLt a (region m n .size)) (ℕ-discrete (region m n .kind) alias)
+    where
+      go : ((c x : ℕ) → c < n → f c x ≡ walk m c x) → Dec (a < region m n .size) → Dec (region m n .kind ≡ alias) → f n a ≡ walk m n a
+      go lower (no p) d = rules n a known .outside (omega arith) ∙ sym (past m n a (omega arith))
+      go lower (yes p) (yes e) =
+          let s = accepted-walkable m memory ok in
+          rules n a known .aliased p e ∙ lower (region m n .target) (a + region m n .«alias_offset») (s .targets n known e) ∙ sym (walk-alias m s n known e a p)
+      go lower (yes p) (no e) =
+          by-ranks n a known lower p e 8192 (λ c h l. absurd (omega (arith, l, rank-bound m memory ok n a known e p c (h .below)))) ∙ sym (walk-inside m n e a p)
+
+  pub visibility-only : (n a : ℕ) → n < m .count → f n a ≡ walk m n a
+  visibility-only n a known = only-below (suc n) n a (omega arith) known

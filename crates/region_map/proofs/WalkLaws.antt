@@ -11,22 +11,17 @@ use Rattle.map_records.specs.declared.map.Region.{Region}
 use Rattle.map_records.specs.declared.map.RegionMap.{RegionMap}
 use Rattle.region_map.specs.declared.resolve.Resolved.{Resolved}
 use Rattle.region_map.specs.declared.resolve.Resolved.the-variants.{Nothing, At}
-use Rattle.region_map.proofs.Bools.{and-fst, and-snd}
+use Rattle.region_map.proofs.Bools.{and-fst, and-snd, and-no}
 use Rattle.map_records.specs.Map.{region}
 use Rattle.region_map.specs.Clash.{priorityOf}
 use Rattle.region_map.specs.Walk.{rank, child, ranked, orElse, holds, asked, own, answer, tried, visit, walkBelow, walk}
-use Rattle.region_map.specs.Span.{Walkable, NextChild}
+use Rattle.region_map.specs.Contracts.{Walkable, NextChild}
 
 -- Tests.
 
 cond-le : (b : Bool) (x y z : ℕ) → x ≤ z → y ≤ z → cond b x y ≤ z
 cond-le true x y z h k = h
 cond-le false x y z h k = k
-
-and-no : (x y : Bool) → (x ≡ true → y ≡ true → ⊥) → (x && y) ≡ false
-and-no true true h = absurd (h refl refl)
-and-no true false h = refl
-and-no false y h = refl
 
 -- Ranks.
 

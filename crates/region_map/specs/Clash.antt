@@ -6,8 +6,6 @@ use Rattle.map_records.specs.Map.{mmio, managed, region}
 use Rattle.region_map.specs.Fault.{backed}
 use Rattle.map_records.specs.declared.map.Region.{Region}
 use Rattle.map_records.specs.declared.map.RegionMap.{RegionMap}
-use Rattle.region_map.specs.declared.clash.PairRule.{PairRule}
-use Rattle.region_map.specs.declared.clash.PairRule.the-variants as rule
 
 -- [a, a + s) and [b, b + t) share a number: the larger start lies in both
 abbrev pub share : ℕ → ℕ → ℕ → ℕ → Bool
@@ -38,10 +36,3 @@ unfoldable pub siblingClash : RegionMap → ℕ → ℕ → Bool
 siblingClash m i j =
     siblings (region m i) (region m j) && eqb (priorityOf (region m i)) (priorityOf (region m j))
     && share (region m i .offset) (region m i .size) (region m j .offset) (region m j .size)
-
--- the rule that a search over pairs goes by
-abbrev pub clash : PairRule → RegionMap → ℕ → ℕ → Bool
-clash rule.Memory m i j = memoryClash (region m i) (region m j)
-clash rule.Managed m i j = managedClash (region m i) (region m j)
-clash rule.Ports m i j = portClash (region m i) (region m j)
-clash rule.Siblings m i j = siblingClash m i j

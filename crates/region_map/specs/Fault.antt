@@ -7,8 +7,6 @@ use Rattle.map_records.specs.declared.map.Region.{Region}
 use Rattle.map_records.specs.declared.map.RegionMap.{RegionMap}
 use Rattle.map_records.specs.declared.map.Field.{Field}
 use Rattle.map_records.specs.declared.map.Field.the-variants.{MemoryStart, Port, Target, AliasOffset}
-use Rattle.region_map.specs.declared.fault.NodeRule.{NodeRule}
-use Rattle.region_map.specs.declared.fault.NodeRule.the-variants as rule
 
 -- the largest offset and size
 abbrev pub limit : ℕ
@@ -64,11 +62,4 @@ backed r = eqb (r .kind) ram || eqb (r .kind) managed
 
 -- 8: 'memory start + size over the memory's length'
 abbrev pub memoryFault : ℕ → Region → Bool
-memoryFault length r = backed r && ltb length (r .«memory_start» + r .size)
-
--- the rule that a search over the regions goes by
-abbrev pub fault : NodeRule → RegionMap → ℕ → ℕ → Bool
-fault rule.Kind m length n = kindFault (region m n .kind)
-fault rule.Field m length n = fieldFault (region m n)
-fault rule.Link m length n = linkFault m n
-fault rule.Memory m length n = memoryFault length (region m n)
+memoryFault memory r = backed r && ltb memory (r .«memory_start» + r .size)

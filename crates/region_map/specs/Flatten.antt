@@ -47,9 +47,9 @@ refusal r = record { reply = r; view = viewHolding [] }
 unfoldable pub listed : List FlatRange → Outcome
 listed l = cond (ltb 256 (length l)) (refusal (plain 12)) (record { reply = accepted; view = viewHolding l })
 
--- the given map m over a memory of `length` bytes: 3, 4 and 6 to 11 come first
+-- the given map m over a memory of `memory` bytes: 3, 4 and 6 to 11 come first
 unfoldable pub flattened : RegionMap → ℕ → Outcome
-flattened m length = ifAccepted (judged m length) refusal (listed (flatList m))
+flattened m memory = ifAccepted (judged m memory) refusal (listed (flatList m))
 
 -- what making the view leaves in the lent words: all of it or, on a refusal, what was there; words that are not a view's are refused as a record is
 pub record Made : Type 0 where
@@ -63,8 +63,8 @@ abbrev pub isView : List ℕ → Bool
 isView w = eqb (length w) 1537
 
 unfoldable pub flattenedInto : RegionMap → ℕ → List ℕ → Made
-flattenedInto m length view =
-    cond (isView view) (laidInto (flattened m length) view) (record { reply = plain 27; words = view })
+flattenedInto m memory view =
+    cond (isView view) (laidInto (flattened m memory) view) (record { reply = plain 27; words = view })
 
 -- document 01's number for each answer
 abbrev pub flatReply : FlatAnswer → Reply
@@ -77,31 +77,3 @@ pub record FirstHalf (m : RegionMap) (l : List FlatRange) : Type 0 where
   pub gives : (a : ℕ) → lookup l a ≡ walkRoot m a
   pub longest : Longest (backingOf m) l
   pub only : (other : List FlatRange) → Longest (backingOf m) other → ((a : ℕ) → lookup other a ≡ walkRoot m a) → other ≡ l
-
--- What the functions that make the view promise each other.
-
--- words of a view that has room for its count
-pub record Viewed (w : List ℕ) : Type 0 where
-  pub words : length w ≡ 1537
-  pub few : viewOf w .count ≤ 256
-
--- a view after ranges were put behind it, and whether it was full
-pub record Pushed : Type 0 where
-  pub full : Bool
-  pub view : FlatView
-
--- p holds the list l, or says that it has no room
-pub record Grew (l : List FlatRange) (p : Pushed) : Type 0 where
-  pub full : p .full ≡ ltb 256 (length l)
-  pub room : p .view .count ≤ 256
-  pub list : p .full ≡ false → entries (p .view) ≡ l
-
--- what stands behind the entries is zero
-abbrev pub Blank : FlatView → Type 0
-Blank v = drop (v .count) (v .ranges) ≡ replicate (256 - v .count) noRange
-
--- the same of a view as words: from `before` to `after`
-pub record Grows (l : List FlatRange) (before : List ℕ) (full : Bool) (after : List ℕ) : Type 0 where
-  pub grew : Grew l (record { full = full; view = viewOf after })
-  pub blank : Blank (viewOf before) → Blank (viewOf after)
-  pub words : length after ≡ 1537

@@ -4,9 +4,10 @@ pub mod Clash
 pub mod Check
 pub mod Sound
 pub mod Walk
-pub mod Span
+pub mod Visibility
 pub mod Resolve
 pub mod FlatList
 pub mod Pieces
 pub mod Flatten
+pub mod Contracts
 pub mod ViewRules

@@ -13,9 +13,9 @@ pub data Led : Type 0 where
   refused : Reply → Led
   leads : Resolved → Led
 
--- the given map m over a memory of `length` bytes, at the guest address a
+-- the given map m over a memory of `memory` bytes, at the guest address a
 unfoldable pub resolved : RegionMap → ℕ → ℕ → Led
-resolved m length a = ifAccepted (judged m length) refused (leads (walkRoot m a))
+resolved m memory a = ifAccepted (judged m memory) refused (leads (walkRoot m a))
 
 -- what the public walk answers
 abbrev pub ledBy : Resolution → Led

@@ -37,8 +37,8 @@ pub record Rooted (r : Region) : Type 0 where
   pub parent : r .parent ≡ 0
   pub offset : r .offset ≡ 0
 
--- the facts of a map that the check lets pass, over a memory of `length` bytes
-pub record Sound (m : RegionMap) (length : ℕ) : Type 0 where
+-- the facts of a map that the check lets pass, over a memory of `memory` bytes
+pub record Sound (m : RegionMap) (memory : ℕ) : Type 0 where
   pub some : 0 < m .count
   pub count : m .count ≤ 32
   pub kinds : (n : ℕ) → n < m .count → region m n .kind ≤ managed
@@ -46,8 +46,8 @@ pub record Sound (m : RegionMap) (length : ℕ) : Type 0 where
   pub parents : (n : ℕ) → n < m .count → (region m n .parent ≡ 0 → ⊥) → Parented m n
   pub targets : (n : ℕ) → n < m .count → region m n .kind ≡ alias → region m n .target < n
   pub root : Rooted (region m (m .count - 1))
-  pub ends : (n : ℕ) → n < m .count → backed (region m n) ≡ true → region m n .«memory_start» + region m n .size ≤ length
-  pub memory : (i j : ℕ) → i < j → j < m .count → backed (region m i) ≡ true → backed (region m j) ≡ true
+  pub ends : (n : ℕ) → n < m .count → backed (region m n) ≡ true → region m n .«memory_start» + region m n .size ≤ memory
+  pub bytes : (i j : ℕ) → i < j → j < m .count → backed (region m i) ≡ true → backed (region m j) ≡ true
       → Apart (region m i .«memory_start») (region m i .size) (region m j .«memory_start») (region m j .size)
   pub single : (i j : ℕ) → i < j → j < m .count → region m i .kind ≡ managed → region m j .kind ≡ managed → ⊥
   pub ports : (i j : ℕ) → i < j → j < m .count → region m i .kind ≡ mmio → region m j .kind ≡ mmio → region m i .port ≡ region m j .port → ⊥

@@ -2,9 +2,8 @@
 ghost use mathlib.Core.Path.{_≡_};
 ghost use Prim.Native.Nat.{_≤_, _<_};
 ghost use Rattle.region_map.specs.Walk.{rank as rankOf};
-ghost use Rattle.region_map.specs.Span.{NextChild};
+ghost use Rattle.region_map.specs.Contracts.{NextChild, Tree};
 ghost use Rattle.map_records.specs.Words.{mapOf};
-ghost use Rattle.region_map.specs.Span.{Tree};
 use crate::clash::priority_of;
 use map_records::words::region_at;
 

@@ -1,10 +1,7 @@
 // The searches over regions and over pairs of them.
 ghost use mathlib.Core.Path.{_≡_};
 ghost use Rattle.map_records.specs.Words.{mapOf};
-ghost use Rattle.region_map.specs.Span.{Counted};
-ghost use Rattle.region_map.specs.Fault.{fault};
-ghost use Rattle.region_map.specs.Clash.{clash};
-ghost use Rattle.region_map.specs.Check.{LowestIs, FirstIs};
+ghost use Rattle.region_map.specs.Contracts.{Counted, fault, clash, LowestIs, FirstIs};
 use crate::clash::PairRule;
 use crate::clash::clashes;
 use crate::fault::NodeRule;

@@ -4,7 +4,7 @@ ghost use mathlib.Core.Path.{_≡_};
 ghost use Prim.Native.Nat.{_≤_, _<_};
 ghost use Rattle.region_map.specs.Walk.{walk as walkOf, tried, walkBelow};
 ghost use Rattle.map_records.specs.Words.{mapOf};
-ghost use Rattle.region_map.specs.Span.{Tree};
+ghost use Rattle.region_map.specs.Contracts.{Tree};
 use crate::children::next_child;
 use crate::resolve::Resolved;
 use map_records::map::ALIAS;

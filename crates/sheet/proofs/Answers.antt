@@ -1,13 +1,9 @@
 -- The reader's promise fixes its answer: two answers with one number and the same place or nodes are equal. Assumes nothing.
 use mathlib.Core.Path.{_≡_, refl, sym, ap, _∙_}
 use mathlib.Core.Bool.{cond}
-use Prim.Native.Nat.{ℕ}
 use lib.Dec.{eqb}
 use Rattle.region_map.specs.Reply.{Reply, accepted, nodes, place, plain}
-use Rattle.region_map.specs.Check.{reply}
-use Rattle.region_map.specs.declared.check.MapAnswer.{MapAnswer}
-use Rattle.region_map.specs.declared.check.MapAnswer.the-variants as map
-use Rattle.region_map.proofs.Answers.{answerOf, reply-back}
+use Rattle.region_map.proofs.Answers.{answerOf, reply-back, reply-form}
 use Rattle.sheet.specs.Answer.{sheetReply}
 use Rattle.sheet.specs.declared.answer.SheetAnswer.{SheetAnswer}
 use Rattle.sheet.specs.declared.answer.SheetAnswer.the-variants.{Short, Number, Count, Kind, Tail, Record, Checked}
@@ -19,17 +15,6 @@ sheetAnswerOf (nodes k i j) = Checked (answerOf (nodes k i j))
 sheetAnswerOf (plain k) = Record
 sheetAnswerOf (place k p) = cond (eqb k 1) (Short p) (cond (eqb k 2) (Number p) (cond (eqb k 3) (Count p) (cond (eqb k 4) (Kind p) (Tail p))))
 
-checked-back : (a : MapAnswer) → sheetAnswerOf (reply a) ≡ Checked (answerOf (reply a))
-checked-back map.Accepted = refl
-checked-back map.Count = refl
-checked-back (map.Kind n) = refl
-checked-back (map.Field n) = refl
-checked-back (map.Link n) = refl
-checked-back (map.Memory i j) = refl
-checked-back (map.Managed i j) = refl
-checked-back (map.Port i j) = refl
-checked-back (map.Overlap i j) = refl
-
 back : (a : SheetAnswer) → sheetAnswerOf (sheetReply a) ≡ a
 back (Short p) = refl
 back (Number p) = refl
@@ -37,7 +22,7 @@ back (Count p) = refl
 back (Kind p) = refl
 back (Tail p) = refl
 back Record = refl
-back (Checked a) = checked-back a ∙ ap Checked (reply-back a)
+back (Checked a) = reply-form (λ r. sheetAnswerOf r ≡ Checked (answerOf r)) refl (λ k i j. refl) a ∙ ap Checked (reply-back a)
 
 pub sheet-reply-injective : (a b : SheetAnswer) → sheetReply a ≡ sheetReply b → a ≡ b
 sheet-reply-injective a b e = sym (back a) ∙ ap sheetAnswerOf e ∙ back b

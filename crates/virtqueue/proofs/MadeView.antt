@@ -102,7 +102,7 @@ module _ (m : RegionMap) (memory : ℕ) (ok : Accepted m memory) (few : length (
         where
           pick : (x : Bool) → eqb (r .kind) mmio ≡ x → (x || ltb (r .base + lastOffset r) memory) ≡ true
           pick true p = refl
-          pick false p = lt-ltb (r .base + lastOffset r) memory (f .memory (eqb-false (r .kind) mmio p))
+          pick false p = lt-ltb (r .base + lastOffset r) memory (f .bytes (eqb-false (r .kind) mmio p))
 
       managed-ok : (r : FlatRange) → (r .kind ≡ managed → lastOffset r < bound) → managedOk bound r ≡ true
       managed-ok r f = pick (eqb (r .kind) managed) refl

@@ -10,10 +10,8 @@ use borrow.Author.Tests.{eq-eqb, ne-eqb, lt-ltb, le-ltb}
 use Rattle.map_records.specs.Words.{mapOf}
 use Rattle.map_records.specs.declared.map.RegionMap.{RegionMap}
 use Rattle.region_map.specs.Check.{judged}
-use Rattle.region_map.specs.Clash.{clash}
-use Rattle.region_map.specs.Fault.{fault}
+use Rattle.region_map.specs.Contracts.{clash, fault, Counted}
 use Rattle.region_map.specs.Reply.{accepted, lowest, firstPair}
-use Rattle.region_map.specs.Span.{Counted}
 use Rattle.region_map.proofs.Found.{lowest-passed, lowest-found, pair-passed, pair-found}
 use Rattle.region_map.proofs.MapWords.{judged-other}
 use borrow.Author.Needs.{needs}

@@ -11,7 +11,8 @@ use Rattle.map_records.specs.declared.map.RegionMap.{RegionMap}
 use Rattle.map_records.specs.declared.view.FlatRange.{FlatRange}
 use Rattle.region_map.specs.Walk.{walkRoot}
 use Rattle.region_map.specs.FlatList.{flat}
-use Rattle.region_map.specs.Flatten.{backingOf, Viewed, Grows, Blank}
+use Rattle.region_map.specs.Flatten.{backingOf}
+use Rattle.region_map.specs.Contracts.{Viewed, Grows, Blank}
 use Rattle.region_map.specs.Pieces.{horizonOf, endOf}
 use Rattle.region_map.proofs.RenderLaws.{Emitted, none-emitted, all-emitted, piece-grew, one-emitted}
 use Rattle.region_map.proofs.ViewLaws.{step-leaf, still-full, kept}

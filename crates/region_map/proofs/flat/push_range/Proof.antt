@@ -11,7 +11,7 @@ use Rattle.map_records.specs.View.{rangeOf, entries}
 use Rattle.map_records.specs.Words.{viewOf, rangeWords}
 use Rattle.map_records.specs.declared.view.FlatRange.{FlatRange}
 use Rattle.region_map.specs.FlatList.{joins, push}
-use Rattle.region_map.specs.Flatten.{Grows}
+use Rattle.region_map.specs.Contracts.{Grows}
 use Rattle.region_map.proofs.ViewWords.{grew-words, added-words, refused-words}
 use borrow.Author.Needs.{needs}
 use Rattle.region_map.proofs.flat.push_range.Statement.{statement}

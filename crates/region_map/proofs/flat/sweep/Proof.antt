@@ -11,7 +11,8 @@ use Rattle.map_records.specs.declared.map.Region.{Region}
 use Rattle.map_records.specs.declared.map.RegionMap.{RegionMap}
 use Rattle.region_map.specs.Walk.{walkRoot}
 use Rattle.region_map.specs.FlatList.{flat}
-use Rattle.region_map.specs.Flatten.{backingOf, rootSize, flatList, Viewed, Grows, Blank}
+use Rattle.region_map.specs.Flatten.{backingOf, rootSize, flatList}
+use Rattle.region_map.specs.Contracts.{Viewed, Grows, Blank}
 use Rattle.region_map.proofs.RenderLaws.{whole-from}
 use Rattle.region_map.proofs.ViewLaws.{start, still-full, kept}
 use Rattle.region_map.proofs.flat.sweep.Statement.{statement}

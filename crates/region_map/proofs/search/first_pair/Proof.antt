@@ -1,8 +1,7 @@
 -- `region_map::search::first_pair` meets its contract. Assumes nothing.
 use Rattle.region_map.specs.declared.search.Pair.the-variants.{Nothing}
 use Rattle.region_map.proofs.First.{pair-none, pair-at}
-use Rattle.region_map.specs.Check.{FirstIs}
-use Rattle.region_map.specs.Clash.{clash}
+use Rattle.region_map.specs.Contracts.{FirstIs, clash}
 use borrow.Author.Count.{below-none, below-more}
 use native.Mathlib.Omega.{arith}
 use Prim.Native.Nat.{ℕ, _+_, _-_, _≤_, _<_}

@@ -1,6 +1,6 @@
 -- `region_map::search::lowest_fault` meets its contract. Assumes nothing.
 use Rattle.region_map.proofs.First.{lowest-none, lowest-at}
-use Rattle.region_map.specs.Fault.{fault}
+use Rattle.region_map.specs.Contracts.{fault}
 use borrow.Author.Count.{below-none, below-more}
 use native.Mathlib.Omega.{arith}
 use Prim.Native.Nat.{ℕ, _+_, _-_, _≤_, _<_}

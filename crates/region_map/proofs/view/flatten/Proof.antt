@@ -6,7 +6,8 @@ use Prim.Native.Nat.{ℕ}
 use lib.ListN.{length, replicate, length-replicate}
 use Rattle.map_records.specs.Words.{mapOf}
 use Rattle.region_map.specs.Check.{reply, Accepted}
-use Rattle.region_map.specs.Flatten.{Made, flatList, Grows, flattenedInto}
+use Rattle.region_map.specs.Flatten.{Made, flatList, flattenedInto}
+use Rattle.region_map.specs.Contracts.{Grows}
 use Rattle.region_map.proofs.Accepted.{is-accepted, passed-reply}
 use Rattle.region_map.proofs.MapWords.{accepted-tree, accepted-some}
 use Rattle.region_map.proofs.ViewWords.{none-yet, none-blank, into-other, into-full, into-made, into-refused}
