@@ -29,7 +29,7 @@ apart a s b t e x p q r w =
 not-shared : (a s b t : ℕ) → Apart a s b t → share a s b t ≡ false
 not-shared a s b t h =
     and-no (ltb (max a b) (a + s)) (ltb (max a b) (b + t)) (λ p q.
-        h (max a b) (omega arith) (ltb-true (max a b) (a + s) p) (omega arith) (ltb-true (max a b) (b + t) q))
+    h (max a b) (omega arith) (ltb-true (max a b) (a + s) p) (omega arith) (ltb-true (max a b) (b + t) q))
 
 -- 6: one field that the kind lacks
 lacks : (r : Region) (f : Field) → extra r f ≡ false → has (r .kind) f ≡ false → valueOf f r ≡ 0
@@ -38,7 +38,7 @@ lacks r f e h = is-eqb (valueOf f r) 0 (and-right (not (has (r .kind) f)) (not (
 lacking : (r : Region) (f : Field) → (has (r .kind) f ≡ false → valueOf f r ≡ 0) → extra r f ≡ false
 lacking r f h =
     and-no (not (has (r .kind) f)) (not (eqb (valueOf f r) 0)) (λ p q.
-        eqb-false (valueOf f r) 0 (not-true (eqb (valueOf f r) 0) q) (h (not-true (has (r .kind) f) p)))
+    eqb-false (valueOf f r) 0 (not-true (eqb (valueOf f r) 0) q) (h (not-true (has (r .kind) f) p)))
 
 -- 6: the values of a region
 bounded-of : (r : Region) → fieldFault r ≡ false → Bounded r
@@ -107,10 +107,10 @@ has-parent m n h =
     let p = parentOf (region m n) in
     let up = region m p .kind in
     and-no (not (eqb (region m n .parent) 0)) (leb p n || leb (m .count) p || eqb up alias || eqb up managed) (λ some bad.
-        let f = h (eqb-false (region m n .parent) 0 (not-true (eqb (region m n .parent) 0) some)) in
-        never
-        (sym bad
-        ∙ rw (lt-leb p n (f .above), lt-leb (m .count) p (f .below), ne-eqb up alias (f .«not-alias»), ne-eqb up managed (f .«not-managed»))))
+    let f = h (eqb-false (region m n .parent) 0 (not-true (eqb (region m n .parent) 0) some)) in
+    never
+    (sym bad
+    ∙ rw (lt-leb p n (f .above), lt-leb (m .count) p (f .below), ne-eqb up alias (f .«not-alias»), ne-eqb up managed (f .«not-managed»))))
 
 target-of : (r : Region) (n : ℕ) → targetFault r n ≡ false → r .kind ≡ alias → r .target < n
 target-of r n e h = leb-false n (r .target) (and-right (eqb (r .kind) alias) (leb n (r .target)) e (eq-eqb (r .kind) alias h))
@@ -118,9 +118,9 @@ target-of r n e h = leb-false n (r .target) (and-right (eqb (r .kind) alias) (le
 has-target : (r : Region) (n : ℕ) → (r .kind ≡ alias → r .target < n) → targetFault r n ≡ false
 has-target r n h =
     and-no (eqb (r .kind) alias) (leb n (r .target)) (λ p q.
-        let low = h (eqb-true (r .kind) alias p) in
-        let high = leb-true n (r .target) q in
-        omega arith)
+    let low = h (eqb-true (r .kind) alias p) in
+    let high = leb-true n (r .target) q in
+    omega arith)
 
 rooted-of : (r : Region) → rootFault r ≡ false → Rooted r
 rooted-of r e =
@@ -137,9 +137,9 @@ memory-end memory r e b = ltb-false memory (r .«memory_start» + r .size) (and-
 ends-within : (memory : ℕ) (r : Region) → (backed r ≡ true → r .«memory_start» + r .size ≤ memory) → memoryFault memory r ≡ false
 ends-within memory r h =
     and-no (backed r) (ltb memory (r .«memory_start» + r .size)) (λ p q.
-        let low = h p in
-        let high = ltb-true memory (r .«memory_start» + r .size) q in
-        omega arith)
+    let low = h p in
+    let high = ltb-true memory (r .«memory_start» + r .size) q in
+    omega arith)
 
 -- 8 to 11: pairs
 memory-apart : (a b : Region) → memoryClash a b ≡ false → backed a ≡ true → backed b ≡ true
@@ -151,9 +151,9 @@ memory-apart a b e x y =
 apart-memory : (a b : Region) → (backed a ≡ true → backed b ≡ true → Apart (a .«memory_start») (a .size) (b .«memory_start») (b .size)) → memoryClash a b ≡ false
 apart-memory a b h =
     and-no (backed a && backed b) (share (a .«memory_start») (a .size) (b .«memory_start») (b .size)) (λ p q.
-        never
-        (sym q
-        ∙ not-shared (a .«memory_start») (a .size) (b .«memory_start») (b .size) (h (and-fst (backed a) (backed b) p) (and-snd (backed a) (backed b) p))))
+    never
+    (sym q
+    ∙ not-shared (a .«memory_start») (a .size) (b .«memory_start») (b .size) (h (and-fst (backed a) (backed b) p) (and-snd (backed a) (backed b) p))))
 
 managed-once : (a b : Region) → managedClash a b ≡ false → a .kind ≡ managed → b .kind ≡ managed → ⊥
 managed-once a b e x y =
@@ -173,7 +173,7 @@ once-port a b h =
     let x = eqb (a .kind) mmio in
     let y = eqb (b .kind) mmio in
     and-no (x && y) (eqb (a .port) (b .port)) (λ p q.
-        h (eqb-true (a .kind) mmio (and-fst x y p)) (eqb-true (b .kind) mmio (and-snd x y p)) (eqb-true (a .port) (b .port) q))
+    h (eqb-true (a .kind) mmio (and-fst x y p)) (eqb-true (b .kind) mmio (and-snd x y p)) (eqb-true (a .port) (b .port) q))
 
 sibling-apart : (a b : Region) → (siblings a b && eqb (priorityOf a) (priorityOf b) && share (a .offset) (a .size) (b .offset) (b .size)) ≡ false
     → (a .parent ≡ 0 → ⊥) → a .parent ≡ b .parent → priorityOf a ≡ priorityOf b → Apart (a .offset) (a .size) (b .offset) (b .size)
@@ -192,12 +192,12 @@ apart-siblings a b h =
     let y = eqb (a .parent) (b .parent) in
     let z = eqb (priorityOf a) (priorityOf b) in
     and-no (siblings a b && z) (share (a .offset) (a .size) (b .offset) (b .size)) (λ p q.
-        let s = and-fst (siblings a b) z p in
-        never
-        (sym q
-        ∙ not-shared (a .offset) (a .size) (b .offset) (b .size)
-        (h (eqb-false (a .parent) 0 (not-true (eqb (a .parent) 0) (and-fst x y s))) (eqb-true (a .parent) (b .parent) (and-snd x y s))
-        (eqb-true (priorityOf a) (priorityOf b) (and-snd (siblings a b) z p)))))
+    let s = and-fst (siblings a b) z p in
+    never
+    (sym q
+    ∙ not-shared (a .offset) (a .size) (b .offset) (b .size)
+    (h (eqb-false (a .parent) 0 (not-true (eqb (a .parent) 0) (and-fst x y s))) (eqb-true (a .parent) (b .parent) (and-snd x y s))
+    (eqb-true (priorityOf a) (priorityOf b) (and-snd (siblings a b) z p)))))
 
 module _ (m : RegionMap) (memory : ℕ) where
   -- every rule lets the map pass

@@ -1,10 +1,10 @@
--- Laws of tests: those that say the same, of a sum and of two ranges without a sum, and of parts of a test. Assumes nothing.
+-- Laws of tests: those that say the same, of two ranges without a sum, and of parts of a test. Assumes nothing.
 use mathlib.Core.Path.{_≡_, refl, sym, ap₂}
 use mathlib.Core.Bool.{Bool, true, false, _&&_, _||_, not}
 use Prim.Native.Nat.{ℕ, _+_, _-_, _≤_, _<_, max}
 use native.Mathlib.Omega.{arith}
-use lib.Dec.{eqb, ltb}
-use borrow.Author.Tests.{ltb-true, ltb-false, eqb-true, not-false, ne-eqb}
+use lib.Dec.{eqb, leb, ltb}
+use borrow.Author.Tests.{ltb-true, ltb-false, leb-true, leb-false, eqb-true, not-false, lt-ltb, le-ltb, ne-eqb}
 use Rattle.region_map.specs.Clash.{share}
 
 -- two orders that follow from each other have equal tests
@@ -17,8 +17,12 @@ ltb-same a b c d f g = go (ltb a b) (ltb c d) refl refl
     go false true p q = absurd (omega (arith, g (ltb-true c d q), ltb-false a b p))
     go false false p q = refl
 
-pub sum-over : (a b limit : ℕ) → b ≤ limit → ltb (limit - b) a ≡ ltb limit (a + b)
-sum-over a b limit h = ltb-same (limit - b) a limit (a + b) (λ p. omega arith) (λ p. omega arith)
+pub not-leb : (a b : ℕ) → not (leb a b) ≡ ltb b a
+not-leb a b = go (leb a b) refl
+  where
+    go : (t : Bool) → leb a b ≡ t → not t ≡ ltb b a
+    go true p = sym (le-ltb b a (leb-true a b p))
+    go false p = sym (lt-ltb b a (leb-false a b p))
 
 pub share-below : (a s b t : ℕ) → a < b → (ltb (b - a) s && ltb 0 t) ≡ share a s b t
 share-below a s b t h =

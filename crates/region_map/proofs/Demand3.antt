@@ -31,7 +31,7 @@ use Rattle.region_map.proofs.WalkLaws.{past}
 use Rattle.region_map.proofs.LeafLaws.{root-leaf}
 use Rattle.region_map.specs.Visibility.{LeafOf}
 use Rattle.region_map.proofs.FlatLaws.{flat-gives, flat-beyond, flat-longest}
-use Rattle.region_map.proofs.UniqueLaws.{unique, sound, here, later, low}
+use Rattle.region_map.proofs.UniqueLaws.{unique, sound, entry-at, here, later, low}
 
 -- past the root the tree leads nowhere
 root-past : (m : RegionMap) (a : ℕ) → rootSize m ≤ a → walkRoot m a ≡ Nothing
@@ -78,12 +78,6 @@ module _ (m : RegionMap) (memory : ℕ) (ok : Accepted m memory) where
 
 -- The k-th range of a list of longest runs.
 module _ (backing : ℕ → Backing) where
-  entry-at : (l : List FlatRange) (k : ℕ) → Longest backing l → k < length l → Entry backing (getD l k noRange)
-  entry-at [] k c h = absurd (omega arith)
-  entry-at (x ∷ xs) zero c h = sound x xs c
-  entry-at (x ∷ []) (suc k) c h = absurd (omega arith)
-  entry-at (x ∷ (y ∷ ys)) (suc k) c h = entry-at (y ∷ ys) k (c .2) (omega arith)
-
   -- every range of the tail starts after the head's last address
   tail-above : (x : FlatRange) (xs : List FlatRange) (k : ℕ) → Chain backing x xs → k < length xs → x .last .0 < getD xs k noRange .first .0
   tail-above x [] k c h = absurd (omega arith)

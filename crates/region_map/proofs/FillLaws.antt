@@ -136,7 +136,7 @@ unfolding given
 given-same v w h zero x = refl
 given-same v w h (suc k) x =
     ap₂ orElse (given-same v w h k x)
-    (rw (h (3 + 4 * k) (omega arith), h (4 + 4 * k) (omega arith), h (5 + 4 * k) (omega arith), h (6 + 4 * k) (omega arith)))
+    (rw (h (3 + 4 * k) (omega arith), h (3 + 4 * k + 1) (omega arith), h (3 + 4 * k + 2) (omega arith), h (3 + 4 * k + 3) (omega arith)))
 
 -- w is u with a window put behind it at the addresses below a, which has the place i
 pub record Filled (u : List ℕ) (region first offset end : ℕ) (w : List ℕ) (a i : ℕ) : Type 0 where
@@ -257,10 +257,10 @@ module _ {u : List ℕ} {region first offset end : ℕ} where
         far = omega (arith, cut, f .kept .far);
         from = λ j h. omega (arith, other 2 (omega arith), other (3 + 4 * j) (omega arith), f .kept .from j (in-w j h));
         near = λ j h. omega (arith, cut, other (3 + 4 * j) (omega arith), f .kept .order j (in-w j h), f .spot .before j (omega (arith, in-w j h, f .kept .few)));
-        order = λ j h. omega (arith, other (3 + 4 * j) (omega arith), other (4 + 4 * j) (omega arith), f .kept .order j (in-w j h));
-        apart = λ j k h l. omega (arith, other (3 + 4 * k) (omega arith), other (4 + 4 * j) (omega arith), f .kept .apart j k h (in-w k l));
-        ends = λ j h. omega (arith, other (4 + 4 * j) (omega arith), f .kept .ends j (in-w j h));
-        regions = λ j h. omega (arith, other (5 + 4 * j) (omega arith), f .kept .regions j (in-w j h));
+        order = λ j h. omega (arith, other (3 + 4 * j) (omega arith), other (3 + 4 * j + 1) (omega arith), f .kept .order j (in-w j h));
+        apart = λ j k h l. omega (arith, other (3 + 4 * k) (omega arith), other (3 + 4 * j + 1) (omega arith), f .kept .apart j k h (in-w k l));
+        ends = λ j h. omega (arith, other (3 + 4 * j + 1) (omega arith), f .kept .ends j (in-w j h));
+        regions = λ j h. omega (arith, other (3 + 4 * j + 2) (omega arith), f .kept .regions j (in-w j h));
       };
       start = other 2 (omega arith) ∙ f .start;
       within = omega (arith, cut, f .within);

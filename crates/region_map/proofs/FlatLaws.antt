@@ -12,7 +12,7 @@ use Rattle.region_map.specs.declared.resolve.Resolved.{Resolved}
 use Rattle.region_map.specs.declared.resolve.Resolved.the-variants.{Nothing, At}
 use Rattle.region_map.specs.declared.flat.Backing.{Backing}
 use Rattle.map_records.specs.declared.view.FlatRange.{FlatRange}
-use Rattle.region_map.specs.FlatList.{rangeAt, Joined, joins, grown, after, push, extend, flat, inside, answerOf, lookup}
+use Rattle.region_map.specs.FlatList.{rangeAt, joins, grown, after, push, extend, flat, inside, answerOf, lookup}
 use Rattle.region_map.specs.Contracts.{shift}
 use Rattle.region_map.specs.FlatList.{Entry, Follows, Chain, Longest}
 use Rattle.region_map.proofs.RangeTests.{Is, on, off, is, inside-on, inside-before, inside-beyond}
@@ -90,7 +90,7 @@ unfolding extend
 extend-more backing l at d Nothing = refl
 extend-more backing l at d (At k o) =
     push-push l (rangeAt backing at (at + d) k (o .0)) (rangeAt backing (suc (at + d)) (suc (at + d)) k (o .0 + suc d))
-    (record { next = omega arith; order = omega arith; region = refl; offset = omega arith })
+    (record { next = omega arith; region = refl; offset = omega arith })
 
 module _ (backing : ℕ → Backing) (f : ℕ → Resolved) (at : ℕ) where
   stretch : (d : ℕ) → ((i : ℕ) → i ≤ d → f (at + i) ≡ shift i (f at)) → flat backing f (suc (at + d)) ≡ extend backing (flat backing f at) at (at + d) (f at)

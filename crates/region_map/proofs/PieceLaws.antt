@@ -16,7 +16,7 @@ use Rattle.region_map.specs.declared.resolve.Resolved.{Resolved}
 use Rattle.region_map.specs.declared.resolve.Resolved.the-variants.{Nothing, At}
 use Rattle.region_map.specs.declared.pieces.Piece.{Piece}
 use Rattle.region_map.specs.Walk.{orElse}
-use Rattle.region_map.specs.Pieces.{countOf, horizonOf, startOf, firstOf, endOf, regionOf, offsetOf, window, itself, pieceGives, given, shown, Pieces, Behind, Spot, pieceWords, Moved, Fits}
+use Rattle.region_map.specs.Pieces.{countOf, horizonOf, startOf, firstOf, endOf, regionOf, offsetOf, window, itself, pieceGives, given, shown, PieceIs, Begun, Pieces, Behind, Spot, pieceWords, Moved, Fits}
 use Rattle.region_map.proofs.WindowLaws.{window-before, window-past, or-nothing}
 
 side : (e n : ℕ) → (e < n) ⊎ (n ≤ e)
@@ -61,13 +61,13 @@ empty v s e size count horizon start ahead far = record {
   regions = λ i h. absurd (omega arith);
 }
 
-pub begin-empty : (w : List ℕ) (s e : ℕ) → length w ≡ 1027 → s < e → e ≤ 2 ^ 48 → Pieces (set (set (set w 0 0) 1 e) 2 s) × (countOf (set (set (set w 0 0) 1 e) 2 s) ≡ 0) × (startOf (set (set (set w 0 0) 1 e) 2 s) ≡ s) × (horizonOf (set (set (set w 0 0) 1 e) 2 s) ≡ e)
-begin-empty w s e size ahead far = (
-  empty (set (set (set w 0 0) 1 e) 2 s) s e (size-begun w s e size) (count-begun w s e size) (horizon-begun w s e size) (start-begun w s e size) ahead far,
-  count-begun w s e size,
-  start-begun w s e size,
-  horizon-begun w s e size,
-)
+pub begin-empty : (w : List ℕ) (s e : ℕ) → length w ≡ 1027 → s < e → e ≤ 2 ^ 48 → Begun s e (set (set (set w 0 0) 1 e) 2 s)
+begin-empty w s e size ahead far = record {
+  kept = empty (set (set (set w 0 0) 1 e) 2 s) s e (size-begun w s e size) (count-begun w s e size) (horizon-begun w s e size) (start-begun w s e size) ahead far;
+  none = count-begun w s e size;
+  first = start-begun w s e size;
+  horizon = horizon-begun w s e size;
+}
 
 -- The move.
 
@@ -81,12 +81,12 @@ pub move-start : (w : List ℕ) (top : ℕ) → Moving w top top w
 move-start w top = record { size = refl; low = λ j h. refl; up = λ j l h. absurd (omega arith) }
 
 -- a piece moved up by one
-module _ (w v : List ℕ) (k top : ℕ) (p : Piece) (same : (p .first .0 ≡ firstOf v k) × (p .end .0 ≡ endOf v k) × (p .region ≡ regionOf v k) × (p .offset .0 ≡ offsetOf v k)) where
+module _ (w v : List ℕ) (k top : ℕ) (p : Piece) (same : PieceIs v k p) where
   word-of : (d : ℕ) → d < 4 → getD (pieceWords p) d 0 ≡ getD v (3 + 4 * k + d) 0
-  word-of zero h = let e : 3 + 4 * k ≡ 3 + 4 * k + 0 = omega arith in same .0 ∙ ap (λ (x : ℕ). getD v x 0) e
-  word-of (suc zero) h = let e : 4 + 4 * k ≡ 3 + 4 * k + 1 = omega arith in same .1 ∙ ap (λ (x : ℕ). getD v x 0) e
-  word-of (suc (suc zero)) h = let e : 5 + 4 * k ≡ 3 + 4 * k + 2 = omega arith in same .2 ∙ ap (λ (x : ℕ). getD v x 0) e
-  word-of (suc (suc (suc zero))) h = let e : 6 + 4 * k ≡ 3 + 4 * k + 3 = omega arith in same .3 ∙ ap (λ (x : ℕ). getD v x 0) e
+  word-of zero h = let e : 3 + 4 * k ≡ 3 + 4 * k + 0 = omega arith in same .first ∙ ap (λ (x : ℕ). getD v x 0) e
+  word-of (suc zero) h = same .end
+  word-of (suc (suc zero)) h = same .region
+  word-of (suc (suc (suc zero))) h = same .offset
   word-of (suc (suc (suc (suc d)))) h = absurd (omega arith)
 
   pub move-piece : 3 + 4 * (k + 1) + 4 ≤ length w → Moving w (3 + 4 * (k + 1)) top v → Moving w (3 + 4 * k) top (sets v (3 + 4 * (k + 1)) (pieceWords p))
@@ -253,19 +253,19 @@ module _ (w : List ℕ) (i m h : ℕ) (p : Piece) (u : List ℕ) (room : i < 256
         start = put-other u (3 + 4 * i) p 2 (inl (omega arith)) ∙ r .start;
         low = λ j l. record {
           first = placed-low (3 + 4 * j) (omega arith) (omega arith);
-          end = placed-low (4 + 4 * j) (omega arith) (omega arith);
-          region = placed-low (5 + 4 * j) (omega arith) (omega arith);
-          offset = placed-low (6 + 4 * j) (omega arith) (omega arith);
+          end = placed-low (3 + 4 * j + 1) (omega arith) (omega arith);
+          region = placed-low (3 + 4 * j + 2) (omega arith) (omega arith);
+          offset = placed-low (3 + 4 * j + 3) (omega arith) (omega arith);
         };
         first = put-first u (3 + 4 * i) p fits;
-        end = word-at v (4 + 4 * i) (suc (3 + 4 * i)) (omega arith) ∙ put-end u (3 + 4 * i) p fits;
-        region = word-at v (5 + 4 * i) (suc (suc (3 + 4 * i))) (omega arith) ∙ put-region u (3 + 4 * i) p fits;
-        offset = word-at v (6 + 4 * i) (suc (suc (suc (3 + 4 * i)))) (omega arith) ∙ put-offset u (3 + 4 * i) p fits;
+        end = word-at v (3 + 4 * i + 1) (suc (3 + 4 * i)) (omega arith) ∙ put-end u (3 + 4 * i) p fits;
+        region = word-at v (3 + 4 * i + 2) (suc (suc (3 + 4 * i))) (omega arith) ∙ put-region u (3 + 4 * i) p fits;
+        offset = word-at v (3 + 4 * i + 3) (suc (suc (suc (3 + 4 * i)))) (omega arith) ∙ put-offset u (3 + 4 * i) p fits;
         up = λ j g l. record {
           first = placed-up (3 + 4 * j) (3 + 4 * suc j) (omega arith) (omega arith) (omega arith);
-          end = placed-up (4 + 4 * j) (4 + 4 * suc j) (omega arith) (omega arith) (omega arith);
-          region = placed-up (5 + 4 * j) (5 + 4 * suc j) (omega arith) (omega arith) (omega arith);
-          offset = placed-up (6 + 4 * j) (6 + 4 * suc j) (omega arith) (omega arith) (omega arith);
+          end = placed-up (3 + 4 * j + 1) (3 + 4 * suc j + 1) (omega arith) (omega arith) (omega arith);
+          region = placed-up (3 + 4 * j + 2) (3 + 4 * suc j + 2) (omega arith) (omega arith) (omega arith);
+          offset = placed-up (3 + 4 * j + 3) (3 + 4 * suc j + 3) (omega arith) (omega arith) (omega arith);
         };
       }
 
@@ -374,7 +374,7 @@ module _ (w : List ℕ) (i m h : ℕ) (p : Piece) (v : List ℕ) (t : Pieces w) 
         (side j i);
     after = λ l.
         let b : i < m = omega (arith, d .count) in
-        rw add-one (omega (arith, d .up i (omega arith) b .end, f .after (omega arith), t .order i (omega arith)));
+        rw (add-one i) (omega (arith, d .up i (omega arith) b .end, f .after (omega arith), t .order i (omega arith)));
   }
 
 -- What `insert` promises, in its two cases.

@@ -9,9 +9,9 @@ use Rattle.region_map.specs.declared.resolve.Resolved.{Resolved}
 use Rattle.region_map.specs.declared.resolve.Resolved.the-variants.{Nothing, At}
 use Rattle.region_map.specs.declared.flat.Backing.{Backing}
 use Rattle.map_records.specs.declared.view.FlatRange.{FlatRange}
-use Rattle.region_map.specs.FlatList.{Joined, joins, grown, after, push, inside, answerOf, lookup}
+use Rattle.region_map.specs.FlatList.{joins, grown, after, push, inside, answerOf, lookup}
 use Rattle.region_map.specs.FlatList.{Entry, Follows, Chain, Longest}
-use Rattle.region_map.proofs.RangeTests.{Is, on, off, is, joins-on, on-joins, Place, within, before, beyond, place, inside-on, inside-before, inside-beyond}
+use Rattle.region_map.proofs.RangeTests.{Is, on, off, is, Joined, joins-on, on-joins, Place, within, before, beyond, place, inside-on, inside-before, inside-beyond}
 
 -- the two cases of a list of one entry
 pub after-on : (x r : FlatRange) → joins x r ≡ true → after x [] r ≡ grown x r ∷ []
@@ -33,7 +33,7 @@ after-after x y [] r s = go (is (joins y r))
 after-after x y (z ∷ zs) r s = refl
 
 grown-joined : (x r s : FlatRange) → Joined x r → Joined r s → Joined (grown x r) s
-grown-joined x r s j k = record { next = k .next; order = omega (arith, j .order, k .order); region = cc (j .region, k .region); offset = omega (arith, j .offset, k .offset) }
+grown-joined x r s j k = record { next = k .next; region = cc (j .region, k .region); offset = omega (arith, j .offset, k .offset) }
 
 after-push : (x : FlatRange) (xs : List FlatRange) (r s : FlatRange) → Joined r s → push (after x xs r) s ≡ after x xs (grown r s)
 unfolding after push joins
@@ -127,13 +127,14 @@ after-heads y [] r = go (is (joins y r))
 after-heads y (z ∷ zs) r = (refl, refl, refl)
 
 chained : (backing : ℕ → Backing) (x y : FlatRange) (l : List FlatRange) → Entry backing x → Follows x y → Heads y l → Longest backing l → Longest backing (x ∷ l)
+unfolding joins
 chained backing x y [] s p h c = absurd h
 chained backing x y (z ∷ zs) s p h c = (s, apart, c)
   where
     apart : Follows x z
     apart = record {
       above = rw (h .0) (p .above);
-      split = λ j. p .split (record { next = cc (j .next, h .0); order = rw (← h .0) (j .order); region = cc (j .region, h .1); offset = rw (← h .0, ← h .2) (j .offset) });
+      split = rw (h .0, h .1, h .2) (p .split);
     }
 
 module _ (backing : ℕ → Backing) (r : FlatRange) (sr : Entry backing r) where
@@ -146,7 +147,7 @@ module _ (backing : ℕ → Backing) (r : FlatRange) (sr : Entry backing r) wher
           let j = joins-on x r h in
           rw h (record { order = omega (arith, sx .order, sr .order, u .0); kind = sx .kind; base = sx .base })
       go (off h) =
-          rw h (sx, record { above = u .0; split = λ j. let z = on-joins x r j in let y : _≡_ {A = ℕ} 0 1 = cc in omega arith }, sr)
+          rw h (sx, record { above = u .0; split = h }, sr)
   longest-after x (y ∷ ys) c u = chained backing x y (after y ys r) (c .0) (c .1) (after-heads y ys r) (longest-after y ys (c .2) (u .1))
 
   pub longest-push : (l : List FlatRange) → Longest backing l → Under l (r .first .0) → Longest backing (push l r)

@@ -1,4 +1,4 @@
--- The tests of `specs/Runs.antt` as facts.
+-- The tests of `specs/FlatList.antt` as facts. Assumes nothing.
 use mathlib.Core.Path.{_≡_, refl, sym, ap, _∙_}
 use mathlib.Core.Bool.{Bool, true, false, cond, _&&_}
 use Prim.Native.Nat.{ℕ, _+_, _-_, _≤_, _<_}
@@ -7,7 +7,7 @@ use lib.Dec.{leb, eqb}
 use borrow.Author.Tests.{leb-true, leb-false, eqb-true, eqb-false, eq-eqb, le-leb, lt-leb}
 use Rattle.region_map.proofs.Bools.{and-fst, and-snd, and-off}
 use Rattle.map_records.specs.declared.view.FlatRange.{FlatRange}
-use Rattle.region_map.specs.FlatList.{Joined, joins, inside}
+use Rattle.region_map.specs.FlatList.{joins, inside}
 
 -- a Bool with its value
 pub data Is (b : Bool) : Type 0 where
@@ -18,18 +18,21 @@ pub is : (b : Bool) → Is b
 is true = on refl
 is false = off refl
 
+-- two ranges that join
+pub record Joined (x r : FlatRange) : Type 0 where
+  pub next : r .first .0 ≡ x .last .0 + 1
+  pub region : r .region ≡ x .region
+  pub offset : x .offset .0 + r .first .0 ≡ r .offset .0 + x .first .0
+
 pub joins-on : (x r : FlatRange) → joins x r ≡ true → Joined x r
 unfolding joins
 joins-on x r h =
     let p = eqb (r .first .0) (x .last .0 + 1) in
-    let m = leb (x .first .0) (r .first .0) in
     let q = eqb (r .region) (x .region) in
     let s = eqb (x .offset .0 + r .first .0) (r .offset .0 + x .first .0) in
-    let ms : m && (q && s) ≡ true = and-snd p (m && (q && s)) h in
-    let qs : q && s ≡ true = and-snd m (q && s) ms in
+    let qs : q && s ≡ true = and-snd p (q && s) h in
     record {
-      next = eqb-true _ _ (and-fst p (m && (q && s)) h);
-      order = leb-true _ _ (and-fst m (q && s) ms);
+      next = eqb-true _ _ (and-fst p (q && s) h);
       region = eqb-true _ _ (and-fst q s qs);
       offset = eqb-true _ _ (and-snd q s qs);
     }
@@ -39,7 +42,6 @@ unfolding joins
 on-joins x r j =
     rw (
       eq-eqb (r .first .0) (x .last .0 + 1) (j .next),
-      le-leb (x .first .0) (r .first .0) (j .order),
       eq-eqb (r .region) (x .region) (j .region),
       eq-eqb (x .offset .0 + r .first .0) (r .offset .0 + x .first .0) (j .offset),
     )
@@ -79,12 +81,12 @@ unfolding inside
 inside-beyond x a h = rw (lt-leb a (x .last .0) h) (and-off (leb (x .first .0) a))
 
 -- the last test of the code, once the others have held
-pub joins-last : (x r : FlatRange) → r .first .0 - x .last .0 ≡ 1 → x .first .0 ≤ r .first .0 → r .region ≡ x .region → x .offset .0 ≤ r .offset .0
+pub joins-last : (x r : FlatRange) → x .first .0 ≤ x .last .0 → r .first .0 - x .last .0 ≡ 1 → r .region ≡ x .region → x .offset .0 ≤ r .offset .0
     → eqb (r .offset .0 - x .offset .0) (r .first .0 - x .first .0) ≡ joins x r
-joins-last x r p m k o = go (is (eqb (r .offset .0 - x .offset .0) (r .first .0 - x .first .0)))
+joins-last x r m p k o = go (is (eqb (r .offset .0 - x .offset .0) (r .first .0 - x .first .0)))
   where
     go : Is (eqb (r .offset .0 - x .offset .0) (r .first .0 - x .first .0)) → eqb (r .offset .0 - x .offset .0) (r .first .0 - x .first .0) ≡ joins x r
     go (on e) =
         let q : r .offset .0 - x .offset .0 ≡ r .first .0 - x .first .0 = eqb-true _ _ e in
-        e ∙ sym (on-joins x r (record { next = omega arith; order = m; region = k; offset = omega arith }))
+        e ∙ sym (on-joins x r (record { next = omega arith; region = k; offset = omega arith }))
     go (off e) = e ∙ sym (off-joins x r (λ j. eqb-false (r .offset .0 - x .offset .0) (r .first .0 - x .first .0) e (omega (arith, j .offset))))

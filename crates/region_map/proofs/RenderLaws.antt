@@ -3,7 +3,7 @@ use mathlib.Core.Path.{_≡_, refl, sym, ap, subst, _∙_}
 use mathlib.Core.Bool.{Bool, true, false, _||_}
 use mathlib.Core.List.{List}
 use mathlib.Core.Logic.{_⊎_, inl, inr, ⊎-elim}
-use Prim.Native.Nat.{ℕ, zero, suc, _+_, _-_, _%_, _^_, _≤_, _<_}
+use Prim.Native.Nat.{ℕ, zero, suc, _+_, _-_, _%_, _^_, _≤_, _<_, min}
 use native.Mathlib.Nat.{add-zero, add-suc, not-suc-le-zero}
 use native.Mathlib.Decide.{ℕ-discrete, decLt}
 use native.Mathlib.Omega.{arith}
@@ -130,13 +130,12 @@ some-there size first offset end e = (leb-false end first (or-left _ _ e), leb-f
 pub not-reached : (f : ℕ → Resolved) (w : List ℕ) (first offset end : ℕ) → Pieces w → horizonOf w ≤ first → Behind w (window f first offset end) w
 not-reached f w first offset end k h = behind-none w _ k (λ a l. window-before f first offset end a (omega arith))
 
-module _ (m : RegionMap) (n : ℕ) (x : Region) (same : x ≡ region m n) {w v : List ℕ} (first offset end r : ℕ) (some : first < end) (inside : offset < x .size)
-    (one : r ≤ end - first) (two : r ≤ x .size - offset) (less : r < end - first → x .size - offset ≤ r) where
+module _ (m : RegionMap) (n : ℕ) (x : Region) (same : x ≡ region m n) {w v : List ℕ} (first offset end r : ℕ) (nearer : r ≡ min (end - first) (x .size - offset)) (some : first < end) (inside : offset < x .size) where
   pub through-alias : Walkable m → n < m .count → x .kind ≡ 3 → Behind w (window (walk m (x .target)) first (offset + x .«alias_offset») (first + r)) v
       → Behind w (window (walk m n) first offset end) v
   through-alias s i e b = behind-ext (window-clip (walk m n) (walk m (x .target)) (x .size) (x .«alias_offset»)
       (subst (λ (y : Region). y .kind ≡ 3 → (a : ℕ) → a < y .size → walk m n a ≡ walk m (y .target) (a + y .«alias_offset»)) (sym same) (walk-alias m s n i) e)
-      (past-size m n x same) first offset end r (omega arith) (omega arith) one two less) b
+      (past-size m n x same) first offset end r (omega arith) (omega arith) (omega arith) (omega arith) (λ h. omega arith)) b
 
   pub through-children : (x .kind ≡ 3 → ⊥) → Behind w (window (tried m (walkBelow m n) n 8192) first offset (first + r)) v
       → Behind w (window (walk m n) first offset end) v
@@ -144,7 +143,7 @@ module _ (m : RegionMap) (n : ℕ) (x : Region) (same : x ≡ region m n) {w v :
       let z : offset + 0 ≡ offset = add-zero offset in
       let inner = subst (λ (y : Region). (y .kind ≡ 3 → ⊥) → (a : ℕ) → a < y .size → walk m n a ≡ tried m (walkBelow m n) n 8192 a) (sym same) (walk-inside m n) e in
       behind-ext (λ a. window-clip (walk m n) (tried m (walkBelow m n) n 8192) (x .size) 0
-      (λ o h. inner o h ∙ ap (tried m (walkBelow m n) n 8192) (sym (add-zero o))) (past-size m n x same) first offset end r (omega arith) (omega arith) one two less a
+      (λ o h. inner o h ∙ ap (tried m (walkBelow m n) n 8192) (sym (add-zero o))) (past-size m n x same) first offset end r (omega arith) (omega arith) (omega arith) (omega arith) (λ h. omega arith) a
       ∙ ap (λ (o : ℕ). window (tried m (walkBelow m n) n 8192) first o (first + r) a) z) b
 
 -- The children of n, and n itself.

@@ -8,9 +8,12 @@ use native.Mathlib.Omega.{arith}
 use Rattle.region_map.specs.declared.resolve.Resolved.{Resolved}
 use Rattle.region_map.specs.declared.resolve.Resolved.the-variants.{Nothing, At}
 use Rattle.region_map.specs.declared.flat.Backing.{Backing}
+use lib.ListN.{length, getD}
+use Rattle.map_records.specs.View.{noRange}
 use Rattle.map_records.specs.declared.view.FlatRange.{FlatRange}
-use Rattle.region_map.specs.FlatList.{Joined, inside, answerOf, lookup, Entry, Follows, Chain, Longest}
-use Rattle.region_map.proofs.RangeTests.{inside-on, inside-before, inside-beyond}
+use Rattle.region_map.specs.FlatList.{inside, answerOf, lookup, Entry, Follows, Chain, Longest}
+use Rattle.region_map.proofs.Bools.{never}
+use Rattle.region_map.proofs.RangeTests.{on-joins, inside-on, inside-before, inside-beyond}
 
 offset-in : Resolved → ℕ
 offset-in Nothing = 0
@@ -24,6 +27,13 @@ sound x [] c = c
 sound x (y ∷ ys) c = c .0
 
 module _ (backing : ℕ → Backing) where
+  -- the k-th entry
+  pub entry-at : (l : List FlatRange) (k : ℕ) → Longest backing l → k < length l → Entry backing (getD l k noRange)
+  entry-at [] k c h = absurd (omega arith)
+  entry-at (x ∷ xs) zero c h = sound x xs c
+  entry-at (x ∷ []) (suc k) c h = absurd (omega arith)
+  entry-at (x ∷ (y ∷ ys)) (suc k) c h = entry-at (y ∷ ys) k (c .2) (omega arith)
+
   -- below the first entry a list gives nothing
   pub low : (x : FlatRange) (xs : List FlatRange) (a : ℕ) → Chain backing x xs → a < x .first .0 → lookup (x ∷ xs) a ≡ Nothing
   unfolding lookup
@@ -62,7 +72,7 @@ module _ (backing : ℕ → Backing) where
           sym (here y ys (x .last .0 + 1) (omega arith) (omega (arith, s .order))) ∙ h in
           let k : y .region ≡ x .region = cc in
           let o : y .offset .0 + (x .last .0 + 1 - y .first .0) ≡ x .offset .0 + (x .last .0 + 1 - x .first .0) = ap offset-in e in
-          c .1 .split (record { next = n; order = omega (arith, c .0 .order); region = k; offset = omega (arith, c .0 .order) })
+          never (sym (on-joins x y (record { next = n; region = k; offset = omega (arith, c .0 .order) })) ∙ c .1 .split)
 
   module _ (x : FlatRange) (xs : List FlatRange) (y : FlatRange) (ys : List FlatRange) (c : Chain backing x xs) (d : Chain backing y ys) where
     first-le : ((a : ℕ) → lookup (x ∷ xs) a ≡ lookup (y ∷ ys) a) → x .first .0 ≤ y .first .0

@@ -5,7 +5,7 @@ use mathlib.Core.List.{List, [], _∷_}
 use Prim.Native.Nat.{ℕ, _+_, _-_, _*_, _≤_, _<_}
 use native.Mathlib.Omega.{arith}
 use lib.ListN.{length, set, getD, replicate, length-set}
-use lib.Seq.{sets, length-sets}
+use lib.Seq.{sets, length-sets, getD-take, length-take-le}
 use Rattle.map_records.specs.View.{noRange, rangeOf, entries}
 use Rattle.map_records.specs.Words.{viewOf, rangeWords, viewWords}
 use Rattle.map_records.specs.declared.view.FlatRange.{FlatRange}
@@ -15,9 +15,13 @@ use borrow.Author.Tests.{eq-eqb, ne-eqb}
 use Rattle.map_records.specs.declared.map.RegionMap.{RegionMap}
 use Rattle.region_map.specs.Reply.{Reply, accepted, plain, passes}
 use Rattle.region_map.specs.Check.{judged, Accepted}
-use Rattle.region_map.specs.FlatList.{joins, grown, push}
+use Rattle.region_map.specs.FlatList.{joins, grown, push, flat}
 use Rattle.region_map.specs.Flatten.{viewHolding, Outcome, refusal, listed, flatList, flattened, Made, laidInto, flattenedInto}
-use Rattle.region_map.specs.Contracts.{Viewed, Pushed, Grew, Grows, Blank}
+use Rattle.region_map.specs.Contracts.{Viewed, Filled, Pushed, Grew, Grows, Blank}
+use Rattle.region_map.specs.declared.resolve.Resolved.{Resolved}
+use Rattle.region_map.specs.declared.flat.Backing.{Backing}
+use Rattle.region_map.proofs.FlatLaws.{flat-longest}
+use Rattle.region_map.proofs.UniqueLaws.{entry-at}
 use Rattle.region_map.proofs.Replies.{refused-first}
 use Rattle.region_map.proofs.ViewLaws.{grew, added, refused, blank-grown, blank-added, whole-view}
 
@@ -58,6 +62,15 @@ module _ (w : List ℕ) (r : FlatRange) (j : Viewed w) where
 
     pub refused-words : viewOf w .count ≡ 256 → Grows (push (entries (viewOf w)) r) w true w
     refused-words e = laid (push (entries (viewOf w)) r) w w true (viewOf w) refl (j .words) (refused (viewOf w) r (full-words w) (j .few) off e) (λ b. b)
+
+-- a view whose list is made address by address has no empty range
+pub filled-words : (w : List ℕ) → Viewed w → (backing : ℕ → Backing) (f : ℕ → Resolved) (n : ℕ) → entries (viewOf w) ≡ flat backing f n → Filled (viewOf w)
+filled-words w j backing f n e k h =
+    let l = flat backing f n in
+    let same : rangeOf (viewOf w) k ≡ getD (flat backing f n) k noRange =
+    sym (getD-take (viewOf w .count) (viewOf w .ranges) k noRange h) ∙ ap (λ (x : List FlatRange). getD x k noRange) e in
+    let low : k < length (flat backing f n) = omega (arith, ap length e, length-take-le (viewOf w .count) (viewOf w .ranges) (omega (arith, j .few, full-words w))) in
+    subst (λ (r : FlatRange). r .first .0 ≤ r .last .0) (sym same) (entry-at backing (flat backing f n) k (flat-longest backing f n) low .order)
 
 -- ---- an empty view, and the words of one that holds a list
 pub none-yet : viewOf (replicate 1537 0) ≡ viewHolding []

@@ -6,12 +6,14 @@ use Prim.Native.Nat.{ℕ, _+_, _-_, _^_, _≤_, _<_}
 use lib.Dec.{ltb}
 use lib.ListN.{length, drop, replicate}
 use Rattle.map_records.specs.Map.{alias, region}
-use Rattle.map_records.specs.View.{noRange, entries}
+use Rattle.map_records.specs.View.{noRange, rangeOf, entries}
 use Rattle.map_records.specs.Words.{mapOf, viewOf}
 use Rattle.region_map.specs.Reply.{accepted, nodes, lowest, firstPair}
 use Rattle.region_map.specs.Fault.{kindFault, fieldFault, linkFault, memoryFault}
 use Rattle.region_map.specs.Clash.{memoryClash, managedClash, portClash, siblingClash}
-use Rattle.region_map.specs.Walk.{ranked}
+use Rattle.region_map.specs.Walk.{ranked, walkRoot}
+use Rattle.region_map.specs.Flatten.{flatBelow}
+use Rattle.region_map.specs.Pieces.{startOf, Pieces, Whole}
 use Rattle.map_records.specs.declared.map.RegionMap.{RegionMap}
 use Rattle.map_records.specs.declared.view.FlatRange.{FlatRange}
 use Rattle.map_records.specs.declared.view.FlatView.{FlatView}
@@ -72,6 +74,11 @@ pub record Tree (w : List ℕ) : Type 0 where
   pub words : length w ≡ 289
   pub walkable : Walkable (mapOf w)
 
+-- region n of such a map
+pub record InTree (w : List ℕ) (n : ℕ) : Type 0 where
+  pub tree : Tree w
+  pub below : n < mapOf w .count
+
 -- what the search for the next child finds: 0 where no child of n has a rank below b, else one more than the highest such rank
 pub record NextChild (m : RegionMap) (n b r : ℕ) : Type 0 where
   pub within : r ≤ b
@@ -89,6 +96,10 @@ shift d (At n o) = At n (record { 0 = o .0 + d })
 pub record Viewed (w : List ℕ) : Type 0 where
   pub words : length w ≡ 1537
   pub few : viewOf w .count ≤ 256
+
+-- 'no empty entry'
+abbrev pub Filled : FlatView → Type 0
+Filled v = (k : ℕ) → k < v .count → rangeOf v k .first .0 ≤ rangeOf v k .last .0
 
 -- a view after ranges were put behind it, and whether it was full
 pub record Pushed : Type 0 where
@@ -110,3 +121,11 @@ pub record Grows (l : List FlatRange) (before : List ℕ) (full : Bool) (after :
   pub grew : Grew l (record { full = full; view = viewOf after })
   pub blank : Blank (viewOf before) → Blank (viewOf after)
   pub words : length after ≡ 1537
+
+-- a table that is whole from where the view of the same map ends
+pub record Emits (map view table : List ℕ) : Type 0 where
+  pub words : length map ≡ 289
+  pub room : Viewed view
+  pub pieces : Pieces table
+  pub list : entries (viewOf view) ≡ flatBelow (mapOf map) (startOf table)
+  pub whole : Whole (walkRoot (mapOf map)) table

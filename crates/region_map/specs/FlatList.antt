@@ -15,17 +15,10 @@ rangeAt backing first last k o =
     record { first = record { 0 = first }; last = record { 0 = last }; region = k; offset = record { 0 = o }; kind = backing k .kind; base = backing k .base }
 
 -- 'goes on while the next address answers the same node at the next offset': r starts right after x, with x's region at the next offset
-pub record Joined (x r : FlatRange) : Type 0 where
-  pub next : r .first .0 ≡ x .last .0 + 1
-  pub order : x .first .0 ≤ r .first .0
-  pub region : r .region ≡ x .region
-  pub offset : x .offset .0 + r .first .0 ≡ r .offset .0 + x .first .0
-
--- the same as a test
 unfoldable pub joins : FlatRange → FlatRange → Bool
 joins x r =
     eqb (r .first .0) (x .last .0 + 1)
-    && (leb (x .first .0) (r .first .0) && (eqb (r .region) (x .region) && eqb (x .offset .0 + r .first .0) (r .offset .0 + x .first .0)))
+    && (eqb (r .region) (x .region) && eqb (x .offset .0 + r .first .0) (r .offset .0 + x .first .0))
 
 abbrev pub grown : FlatRange → FlatRange → FlatRange
 grown x r = record { first = x .first; last = r .last; region = x .region; offset = x .offset; kind = x .kind; base = x .base }
@@ -70,7 +63,7 @@ pub record Entry (backing : ℕ → Backing) (x : FlatRange) : Type 0 where
 -- 'ascends without overlap', and 'no entry followed at last + 1 by the same node at the next offset'
 pub record Follows (x y : FlatRange) : Type 0 where
   pub above : x .last .0 < y .first .0
-  pub split : Joined x y → ⊥
+  pub split : joins x y ≡ false
 
 abbrev pub Chain : (ℕ → Backing) → FlatRange → List FlatRange → Type 0
 Chain backing x [] = Entry backing x

@@ -27,9 +27,13 @@ backingOf m n = record { kind = region m n .kind; base = cond (eqb (region m n .
 abbrev pub rootSize : RegionMap → ℕ
 rootSize m = region m (m .count - 1) .size
 
--- 'The list holds all runs, ascending': made from the walk, address by address
+-- the runs of the addresses below an end, made from the walk, address by address
+abbrev pub flatBelow : RegionMap → ℕ → List FlatRange
+flatBelow m end = flat (backingOf m) (walkRoot m) end
+
+-- 'The list holds all runs, ascending'
 unfoldable pub flatList : RegionMap → List FlatRange
-flatList m = flat (backingOf m) (walkRoot m) (rootSize m)
+flatList m = flatBelow m (rootSize m)
 
 -- the view of a list of at most 256: past the count all is zero
 unfoldable pub viewHolding : List FlatRange → FlatView

@@ -9,6 +9,7 @@ use Rattle.region_map.specs.Walk.{orElse}
 use Rattle.region_map.specs.declared.resolve.Resolved.{Resolved}
 use Rattle.region_map.specs.declared.resolve.Resolved.the-variants.{Nothing, At}
 use Rattle.region_map.specs.declared.pieces.Piece.{Piece}
+use Rattle.region_map.specs.declared.pieces.Window.{Window}
 
 -- the words of a table: how many pieces, the address up to which it is whole, the address from which it is, and four for each piece
 abbrev pub countOf : List ℕ → ℕ
@@ -25,13 +26,19 @@ abbrev pub firstOf : List ℕ → ℕ → ℕ
 firstOf w i = getD w (3 + 4 * i) 0
 
 abbrev pub endOf : List ℕ → ℕ → ℕ
-endOf w i = getD w (4 + 4 * i) 0
+endOf w i = getD w (3 + 4 * i + 1) 0
 
 abbrev pub regionOf : List ℕ → ℕ → ℕ
-regionOf w i = getD w (5 + 4 * i) 0
+regionOf w i = getD w (3 + 4 * i + 2) 0
 
 abbrev pub offsetOf : List ℕ → ℕ → ℕ
-offsetOf w i = getD w (6 + 4 * i) 0
+offsetOf w i = getD w (3 + 4 * i + 3) 0
+
+pub record PieceIs (w : List ℕ) (i : ℕ) (p : Piece) : Type 0 where
+  pub first : p .first .0 ≡ firstOf w i
+  pub end : p .end .0 ≡ endOf w i
+  pub region : p .region ≡ regionOf w i
+  pub offset : p .offset .0 ≡ offsetOf w i
 
 -- f, read from an offset on, at the addresses from first up to end
 unfoldable pub window : (ℕ → Resolved) → ℕ → ℕ → ℕ → ℕ → Resolved
@@ -40,6 +47,13 @@ window f first offset end a = cond (leb first a && ltb a end) (f (offset + (a - 
 -- a region at each of its offsets
 abbrev pub itself : ℕ → ℕ → Resolved
 itself n o = At n (record { 0 = o })
+
+-- f in a window
+abbrev pub seen : (ℕ → Resolved) → Window → ℕ → Resolved
+seen f at = window f (at .first .0) (at .offset .0) (at .end .0)
+
+abbrev pub pieceShows : Piece → ℕ → Resolved
+pieceShows p = window (itself (p .region)) (p .first .0) (p .offset .0) (p .end .0)
 
 abbrev pub pieceGives : List ℕ → ℕ → ℕ → Resolved
 pieceGives w i a = window (itself (regionOf w i)) (firstOf w i) (offsetOf w i) (endOf w i) a
@@ -64,6 +78,20 @@ pub record Pieces (w : List ℕ) : Type 0 where
   pub apart : (i j : ℕ) → i < j → j < countOf w → endOf w i ≤ firstOf w j
   pub ends : (i : ℕ) → i < countOf w → endOf w i ≤ 2 ^ 48
   pub regions : (i : ℕ) → i < countOf w → regionOf w i < 32
+
+-- an empty table for the addresses from `start` up to `end`
+pub record Begun (start end : ℕ) (w : List ℕ) : Type 0 where
+  pub kept : Pieces w
+  pub none : countOf w ≡ 0
+  pub first : startOf w ≡ start
+  pub horizon : horizonOf w ≡ end
+
+-- a table and a window that can be put behind it
+pub record Windowed (w : List ℕ) (at : Window) : Type 0 where
+  pub kept : Pieces w
+  pub from : startOf w ≤ at .first .0
+  pub to : at .end .0 ≤ 2 ^ 48
+  pub offset : at .offset .0 ≤ 2 ^ 49
 
 -- v is the table w with f put behind it: below v's horizon, what w shows, and where that is nothing what f gives
 pub record Behind (w : List ℕ) (f : ℕ → Resolved) (v : List ℕ) : Type 0 where

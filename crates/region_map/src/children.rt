@@ -1,15 +1,18 @@
 // The children of a region in the order in which the walk tries them.
 ghost use mathlib.Core.Path.{_≡_};
-ghost use Prim.Native.Nat.{_≤_, _<_};
-ghost use Rattle.region_map.specs.Walk.{rank as rankOf};
-ghost use Rattle.region_map.specs.Contracts.{NextChild, Tree};
+ghost use Prim.Native.Nat.{_≤_};
 ghost use Rattle.map_records.specs.Words.{mapOf};
+ghost use Rattle.region_map.specs.Walk.{rank as rankOf};
+ghost use Rattle.region_map.specs.Contracts.{InTree, NextChild};
 use crate::clash::priority_of;
 use map_records::words::region_at;
 
+// More than every rank of a child.
+pub const RANKS: usize = 8192;
+
 // The place of region c among its parent's children: by priority, then by number.
 fn rank(map: &[u64], c: usize) -> usize
-    requires { ⌜ Tree (now map) × (c < mapOf (now map) .count) ⌝ }
+    requires { ⌜ InTree (now map) c ⌝ }
     ensures { λ r. ⌜ r ≡ rankOf (mapOf (now (map .entry))) c ⌝ }
 {
     let region = region_at(map, c);
@@ -18,7 +21,7 @@ fn rank(map: &[u64], c: usize) -> usize
 
 // One more than the highest rank below `below` of a child of n, or 0.
 pub fn next_child(map: &[u64], n: usize, below: usize) -> usize
-    requires { ⌜ Tree (now map) × (n < mapOf (now map) .count) × (below ≤ 8192) ⌝ }
+    requires { ⌜ InTree (now map) n × (below ≤ 8192) ⌝ }
     ensures { λ r. ⌜ NextChild (mapOf (now (map .entry))) n below r ⌝ }
 {
     let mut best: usize = 0;

@@ -13,6 +13,7 @@ use map_records::map::MANAGED;
 use map_records::map::RAM;
 use map_records::map::Region;
 use map_records::map::has;
+use map_records::numbers::sum_within;
 use map_records::words::region_at;
 use map_records::words::region_count;
 
@@ -92,21 +93,11 @@ fn link_fault(map: &[u64], n: usize) -> bool
     parent_fault(map, n) | target_fault(r, n) | (last & root_fault(r))
 }
 
-// Is the sum over the limit? It never wraps.
-fn sum_over(a: u64, b: u64, limit: u64) -> bool
-    ensures { λ r. ⌜ r ≡ ltb limit (a + b) ⌝ }
-{
-    if limit < b {
-        return true;
-    }
-    limit - b < a
-}
-
 fn memory_fault(memory_length: u64, r: Region) -> bool
     ensures { λ b. ⌜ b ≡ memoryFault «memory_length» r ⌝ }
 {
     let backed = (r.kind == RAM) | (r.kind == MANAGED);
-    backed & sum_over(r.memory_start, r.size, memory_length)
+    backed & !sum_within(r.memory_start, r.size, memory_length)
 }
 
 // Is region n at fault by the rule?

@@ -2,22 +2,25 @@
 // the order of their addresses.
 ghost use mathlib.Core.Path.{_≡_};
 ghost use mathlib.Core.List.{[]};
-ghost use Prim.Native.Nat.{_<_};
+ghost use Prim.Native.Nat.{_≤_, _<_};
 ghost use lib.ListN.{length};
 ghost use Rattle.map_records.specs.View.{entries};
 ghost use Rattle.map_records.specs.Words.{mapOf, viewOf};
-ghost use Rattle.region_map.specs.FlatList.{joins, push, flat};
-ghost use Rattle.region_map.specs.Flatten.{backingOf, flatList, viewHolding};
-ghost use Rattle.region_map.specs.Contracts.{Viewed, Grows, Tree};
-ghost use Rattle.region_map.specs.Walk.{walkRoot};
-ghost use Rattle.region_map.specs.Pieces.{startOf, horizonOf, Pieces, Whole};
+ghost use Rattle.region_map.specs.FlatList.{joins, push};
+ghost use Rattle.region_map.specs.Flatten.{backingOf, flatBelow, flatList, viewHolding};
+ghost use Rattle.region_map.specs.Contracts.{Tree, Viewed, Filled, Grows, Emits};
+ghost use Rattle.region_map.specs.Pieces.{horizonOf};
+use crate::pieces::COUNT;
+use crate::pieces::HORIZON;
+use crate::pieces::WORDS;
+use crate::pieces::Window;
 use crate::pieces::begin;
-use crate::pieces::least;
 use crate::pieces::piece_at;
 use crate::render::render;
 use crate::resolve::root_offset;
 use map_records::map::GuestAddress;
 use map_records::map::MMIO;
+use map_records::numbers::least;
 use map_records::view::FlatRange;
 use map_records::words::count_of;
 use map_records::words::put_count;
@@ -34,15 +37,13 @@ pub struct Backing {
 
 // Does r go on where x ends: the next address, the same region, the next offset?
 fn goes_on(x: FlatRange, r: FlatRange) -> bool
+    requires { ⌜ x .first .0 ≤ x .last .0 ⌝ }
     ensures { λ b. ⌜ b ≡ joins x r ⌝ }
 {
     if r.first.0 <= x.last.0 {
         return false;
     }
     if r.first.0 - x.last.0 != 1 {
-        return false;
-    }
-    if r.first.0 < x.first.0 {
         return false;
     }
     if r.region != x.region {
@@ -56,7 +57,7 @@ fn goes_on(x: FlatRange, r: FlatRange) -> bool
 
 // One range more in the view, or the last one grown. Is it full, so that there was no room?
 fn push_range(view: &mut [u64], r: FlatRange) -> bool
-    requires { ⌜ Viewed (now view) ⌝ }
+    requires { ⌜ Viewed (now view) × Filled (viewOf (now view)) ⌝ }
     ensures { λ full. ⌜ Grows (push (entries (viewOf (now (view .entry)))) r) (now (view .entry)) full (now (view .exit)) ⌝ }
 {
     let n = count_of(view);
@@ -107,18 +108,15 @@ fn backing_of(map: &[u64], n: usize) -> Backing
 
 // The pieces of a table, which is whole from where the view ends up to its horizon, put into the view.
 fn emit(map: &[u64], view: &mut [u64], table: &[u64]) -> bool
-    requires { ⌜ length (now map) ≡ 289 ⌝ }
-    requires { ⌜ Viewed (now view) ⌝ }
-    requires { ⌜ Pieces (now table) ⌝ }
-    requires { ⌜ entries (viewOf (now view)) ≡ flat (backingOf (mapOf (now map))) (walkRoot (mapOf (now map))) (startOf (now table)) ⌝ }
-    requires { ⌜ Whole (walkRoot (mapOf (now map))) (now table) ⌝ }
-    ensures { λ full. ⌜ Grows (flat (backingOf (mapOf (now (map .entry)))) (walkRoot (mapOf (now (map .entry)))) (horizonOf (now (table .entry)))) (now (view .entry)) full (now (view .exit)) ⌝ }
+    requires { ⌜ Emits (now map) (now view) (now table) ⌝ }
+    ensures { λ full. ⌜ Grows (flatBelow (mapOf (now (map .entry))) (horizonOf (now (table .entry))))
+        (now (view .entry)) full (now (view .exit)) ⌝ }
 {
-    let count = table[0] as usize;
+    let count = table[COUNT] as usize;
     let mut i: usize = 0;
     while i < count {
         let p = piece_at(table, i);
-        let stop = least(p.end.0, table[1]);
+        let stop = least(p.end.0, table[HORIZON]);
         let backing = backing_of(map, p.region);
         let first = p.first;
         let offset = p.offset;
@@ -147,17 +145,27 @@ pub fn sweep(map: &[u64], view: &mut [u64]) -> bool
     let root = region_count(map) - 1;
     let region = region_at(map, root);
     let size = region.size;
-    let mut table = [0u64; 1027];
+    let mut table = [0u64; WORDS];
     let mut at: u64 = 0;
     while at < size {
         let here = GuestAddress(at);
         let end = GuestAddress(size);
         begin(&mut table, here, end);
-        render(map, &mut table, root, here, root_offset(here), end);
+        let offset = root_offset(here);
+        render(
+            map,
+            &mut table,
+            root,
+            Window {
+                first: here,
+                end,
+                offset,
+            },
+        );
         if emit(map, view, &table) {
             return true;
         }
-        at = table[1];
+        at = table[HORIZON];
     }
     false
 }

@@ -5,12 +5,23 @@ ghost use mathlib.Core.Path.{_≡_};
 ghost use Prim.Native.Nat.{_+_, _*_, _^_, _≤_, _<_};
 ghost use lib.ListN.{length};
 ghost use lib.Seq.{sets};
-ghost use Rattle.region_map.specs.Pieces.{pieceWords, countOf, horizonOf, startOf, firstOf, endOf, regionOf, offsetOf, window, itself, Pieces, Behind, Spot, Moved, Fits, Free, isTaken, Run};
+ghost use Rattle.region_map.specs.Pieces.{pieceWords, pieceShows, countOf, seen, itself, isTaken};
+ghost use Rattle.region_map.specs.Pieces.{Begun, PieceIs, Pieces, Windowed, Behind, Spot, Moved, Fits, Free, Run};
 use map_records::map::GuestAddress;
 use map_records::map::RegionOffset;
+use map_records::numbers::least;
 
 // A table's words: the count, the horizon, the start, and four for each piece.
 pub const WORDS: usize = 1027;
+
+pub const COUNT: usize = 0;
+
+pub const HORIZON: usize = 1;
+
+const START: usize = 2;
+
+// The first address of the last piece of a full table.
+const LAST_FIRST: usize = 1023;
 
 const PIECES: u64 = 256;
 
@@ -22,25 +33,26 @@ pub struct Piece {
     pub offset: RegionOffset,
 }
 
-pub fn least(a: u64, b: u64) -> u64
-    ensures { λ r. ⌜ (r ≤ a) × (r ≤ b) × (0 < a → 0 < b → 0 < r) × (r < a → b ≤ r) ⌝ }
-{
-    if a < b { a } else { b }
+// The addresses from first up to end, at which a region is seen from an offset on.
+pub struct Window {
+    pub first: GuestAddress,
+    pub end: GuestAddress,
+    pub offset: RegionOffset,
 }
 
 // An empty table for the addresses from `start` up to `end`.
 pub fn begin(table: &mut [u64], start: GuestAddress, end: GuestAddress)
     requires { ⌜ (length (now table) ≡ 1027) × (start .0 < end .0) × (end .0 ≤ 2 ^ 48) ⌝ }
-    ensures { λ _. ⌜ Pieces (now (table .exit)) × (countOf (now (table .exit)) ≡ 0) × (startOf (now (table .exit)) ≡ start .0) × (horizonOf (now (table .exit)) ≡ end .0) ⌝ }
+    ensures { λ _. ⌜ Begun (start .0) (end .0) (now (table .exit)) ⌝ }
 {
-    table[0] = 0;
-    table[1] = end.0;
-    table[2] = start.0;
+    table[COUNT] = 0;
+    table[HORIZON] = end.0;
+    table[START] = start.0;
 }
 
 pub fn piece_at(table: &[u64], i: usize) -> Piece
     requires { ⌜ (length (now table) ≡ 1027) × (i < 256) ⌝ }
-    ensures { λ r. ⌜ (r .first .0 ≡ firstOf (now (table .entry)) i) × (r .end .0 ≡ endOf (now (table .entry)) i) × (r .region ≡ regionOf (now (table .entry)) i) × (r .offset .0 ≡ offsetOf (now (table .entry)) i) ⌝ }
+    ensures { λ r. ⌜ PieceIs (now (table .entry)) i r ⌝ }
 {
     let at = 3 + 4 * i;
     Piece {
@@ -79,15 +91,16 @@ fn shift(table: &mut [u64], i: usize, n: usize)
 fn insert(table: &mut [u64], i: usize, piece: Piece)
     requires { ⌜ Pieces (now table) ⌝ }
     requires { ⌜ Fits (now table) i piece ⌝ }
-    ensures { λ _. ⌜ Behind (now (table .entry)) (window (itself (piece .region)) (piece .first .0) (piece .offset .0) (piece .end .0)) (now (table .exit)) × Spot (now (table .exit)) (piece .end .0) (i + 1) ⌝ }
+    ensures { λ _. ⌜ Behind (now (table .entry)) (pieceShows piece) (now (table .exit))
+        × Spot (now (table .exit)) (piece .end .0) (i + 1) ⌝ }
 {
-    let count = table[0];
+    let count = table[COUNT];
     if count == PIECES {
-        table[1] = table[1023];
+        table[HORIZON] = table[LAST_FIRST];
         shift(table, i, 255);
     } else {
         shift(table, i, count as usize);
-        table[0] = count + 1;
+        table[COUNT] = count + 1;
     }
     put_piece(table, i, piece);
 }
@@ -98,7 +111,7 @@ fn spot(table: &[u64], a: u64) -> usize
     ensures { λ r. ⌜ Spot (now (table .entry)) a r ⌝ }
 {
     let mut low: usize = 0;
-    let mut high = table[0] as usize;
+    let mut high = table[COUNT] as usize;
     while low < high {
         let middle = low + (high - low) / 2;
         let p = piece_at(table, middle);
@@ -117,7 +130,7 @@ fn free_until(table: &[u64], i: usize, a: u64, end: u64) -> u64
     requires { ⌜ Spot (now table) a i × (a ≤ end) ⌝ }
     ensures { λ r. ⌜ Free (now (table .entry)) i a end r ⌝ }
 {
-    if (i as u64) < table[0] {
+    if (i as u64) < table[COUNT] {
         let p = piece_at(table, i);
         if p.first.0 <= a {
             return a;
@@ -132,7 +145,7 @@ fn is_taken(table: &[u64], i: usize, a: u64) -> bool
     requires { ⌜ Pieces (now table) ⌝ }
     ensures { λ r. ⌜ r ≡ isTaken (now (table .entry)) i a ⌝ }
 {
-    if (i as u64) < table[0] {
+    if (i as u64) < table[COUNT] {
         let p = piece_at(table, i);
         return p.first.0 <= a;
     }
@@ -165,36 +178,29 @@ fn skip(table: &[u64], i: usize, end: u64) -> Skipped
     }
 }
 
-// A region, from an offset on, at the addresses of a window that are free.
-pub fn fill(
-    table: &mut [u64],
-    region: usize,
-    first: GuestAddress,
-    offset: RegionOffset,
-    end: GuestAddress,
-)
-    requires { ⌜ Pieces (now table) ⌝ }
-    requires { ⌜ (region < 32) × (startOf (now table) ≤ first .0) × (end .0 ≤ 2 ^ 48) × (offset .0 ≤ 2 ^ 49) ⌝ }
-    ensures { λ _. ⌜ Behind (now (table .entry)) (window (itself region) (first .0) (offset .0) (end .0)) (now (table .exit)) ⌝ }
+// A region at the addresses of a window that are free.
+pub fn fill(table: &mut [u64], region: usize, at: Window)
+    requires { ⌜ Windowed (now table) at × (region < 32) ⌝ }
+    ensures { λ _. ⌜ Behind (now (table .entry)) (seen (itself region) at) (now (table .exit)) ⌝ }
 {
-    let mut a = first.0;
+    let mut a = at.first.0;
     let mut i = spot(table, a);
-    while a < end.0 {
-        if table[1] <= a {
+    while a < at.end.0 {
+        if table[HORIZON] <= a {
             return;
         }
-        let stop = free_until(table, i, a, end.0);
+        let stop = free_until(table, i, a, at.end.0);
         if stop == a {
-            let past = skip(table, i, end.0);
+            let past = skip(table, i, at.end.0);
             a = past.address;
             i = past.at;
         } else {
             if i == 256 {
-                table[1] = a;
+                table[HORIZON] = a;
                 return;
             }
-            let gone = a - first.0;
-            let there = offset.0 + gone;
+            let gone = a - at.first.0;
+            let there = at.offset.0 + gone;
             let piece = Piece {
                 first: GuestAddress(a),
                 end: GuestAddress(stop),

@@ -1,10 +1,11 @@
 // The walk through the tree. Walking a region and trying its remaining children are two functions
 // that call each other: the pair of region number and children left falls.
 ghost use mathlib.Core.Path.{_≡_};
-ghost use Prim.Native.Nat.{_≤_, _<_};
+ghost use Prim.Native.Nat.{_≤_};
 ghost use Rattle.region_map.specs.Walk.{walk as walkOf, tried, walkBelow};
 ghost use Rattle.map_records.specs.Words.{mapOf};
-ghost use Rattle.region_map.specs.Contracts.{Tree};
+ghost use Rattle.region_map.specs.Contracts.{InTree};
+use crate::children::RANKS;
 use crate::children::next_child;
 use crate::resolve::Resolved;
 use map_records::map::ALIAS;
@@ -12,12 +13,9 @@ use map_records::map::CONTAINER;
 use map_records::map::RegionOffset;
 use map_records::words::region_at;
 
-// More than every rank of a child.
-const RANKS: usize = 8192;
-
 // Region n at an offset inside it.
 pub fn walk(map: &[u64], n: usize, at: RegionOffset) -> Resolved
-    requires { ⌜ Tree (now map) × (n < mapOf (now map) .count) ⌝ }
+    requires { ⌜ InTree (now map) n ⌝ }
     ensures { λ r. ⌜ r ≡ walkOf (mapOf (now (map .entry))) n (at .0) ⌝ }
 {
     let a = at.0;
@@ -33,7 +31,7 @@ pub fn walk(map: &[u64], n: usize, at: RegionOffset) -> Resolved
 
 // The children of n whose ranks are below `below`, highest first, and then n itself.
 fn walk_children(map: &[u64], n: usize, at: RegionOffset, below: usize) -> Resolved
-    requires { ⌜ Tree (now map) × (n < mapOf (now map) .count) × (below ≤ 8192) ⌝ }
+    requires { ⌜ InTree (now map) n × (below ≤ 8192) ⌝ }
     ensures { λ r. ⌜ r ≡ tried (mapOf (now (map .entry))) (walkBelow (mapOf (now (map .entry))) n) n below (at .0) ⌝ }
 {
     let next = next_child(map, n, below);

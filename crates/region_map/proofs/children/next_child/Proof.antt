@@ -46,27 +46,27 @@ loop-holds c = (omega arith, omega arith, λ k e. absurd (omega arith), λ k a b
 region-at-requires : tie.Need-region-at-requires Inv-loop μ-loop
 region-at-requires c κs =
     let s = c .before .before .before in
-    (s .pre .0 .words, omega (arith, c .loop-test .taken, s .pre .1, s .pre .0 .walkable .count))
+    (s .pre .0 .tree .words, omega (arith, c .loop-test .taken, s .pre .0 .below, s .pre .0 .tree .walkable .count))
 
 add-if1 : tie.Need-add-if1 Inv-loop μ-loop
 add-if1 c =
     let s = c .before .before .before .before in
-    omega (arith, s .pre .1, s .pre .0 .walkable .count)
+    omega (arith, s .pre .0 .below, s .pre .0 .tree .walkable .count)
 
 rank-requires : tie.Need-rank-requires Inv-loop μ-loop
 rank-requires c κs =
     let s = c .before .before .before .before .before .before in
-    (s .pre .0, omega (arith, c .before .before .before .loop-test .taken, s .pre .1))
+    record { tree = s .pre .0 .tree; below = omega (arith, c .before .before .before .loop-test .taken, s .pre .0 .below) }
 
 add-best : tie.Need-add-best Inv-loop μ-loop
 add-best c =
     let s = c .before .before .before .before .before .before .before .before .before in
-    omega (arith, c .before .if2 .taken, s .pre .2)
+    omega (arith, c .before .if2 .taken, s .pre .1)
 
 add-c : tie.Need-add-c Inv-loop μ-loop
 add-c c =
     let s = c .before .before .before .before .before .before in
-    omega (arith, c .before .before .before .loop-test .taken, s .pre .1, s .pre .0 .walkable .count)
+    omega (arith, c .before .before .before .loop-test .taken, s .pre .0 .below, s .pre .0 .tree .walkable .count)
 
 loop-less : tie.Need-loop-less Inv-loop μ-loop
 loop-less c = omega (arith, c .before .before .before .loop-test .taken)
@@ -82,7 +82,7 @@ loop-again c =
     let go-on : (c .if1 .best ≡ l .best) → (region m (l .c) .parent ≡ a .n + 1 → (rank m (l .c) < l .best) ⊎ (a .below ≤ rank m (l .c))) → Looked m (a .n) (a .below) (c .if1 .best) (l .c + 1)
     = kept m (a .n) (a .below) (l .best) (c .if1 .best) (l .c) (l .inv) lt in
     ⊎-elim
-    (λ w. found m (a .n) (a .below) (l .best) (c .if1 .best) (l .c) (l .inv) lt (omega (arith, lt, s .pre .1, s .pre .0 .walkable .count)) (omega (arith, w)) (sym parent ∙ w .0 .taken) (omega (arith, w)) (omega (arith, w)))
+    (λ w. found m (a .n) (a .below) (l .best) (c .if1 .best) (l .c) (l .inv) lt (omega (arith, lt, s .pre .0 .below, s .pre .0 .tree .walkable .count)) (omega (arith, w)) (sym parent ∙ w .0 .taken) (omega (arith, w)) (omega (arith, w)))
     (⊎-elim (λ w. go-on (w .4) (λ _. inl (omega (arith, w))))
     (⊎-elim (λ w. go-on (w .3) (λ _. inr (omega (arith, w))))
     (λ w. go-on (w .1) (λ p. absurd (w .0 .left (parent ∙ p))))))

@@ -13,7 +13,7 @@ use Rattle.region_map.proofs.children.rank.Statement.{statement}
 use Rattle.region_map.proofs.children.rank.Tie as tie
 
 region-at-requires : tie.Need-region-at-requires
-region-at-requires c κs = (c .before .pre .0 .words, omega (arith, c .before .pre .0 .walkable .count, c .before .pre .1))
+region-at-requires c κs = (c .before .pre .tree .words, omega (arith, c .before .pre .tree .walkable .count, c .before .pre .below))
 
 priority-of-requires : tie.Need-priority-of-requires
 priority-of-requires c κs = search needs
@@ -22,13 +22,13 @@ mul-result : tie.Need-mul-result
 mul-result c =
     let s = c .before .before .before in
     let m = mapOf (s .args .map .now) in
-    omega (arith, c .priority-of .ensures, ap (λ (r : Region). priorityOf r) (c .before .region-at .ensures), priority-le (region m (s .args .c)) (s .pre .0 .walkable .priorities (s .args .c) (s .pre .1)))
+    omega (arith, c .priority-of .ensures, ap (λ (r : Region). priorityOf r) (c .before .region-at .ensures), priority-le (region m (s .args .c)) (s .pre .tree .walkable .priorities (s .args .c) (s .pre .below)))
 
 add-result : tie.Need-add-result
 add-result c =
     let s = c .before .before .before in
     let m = mapOf (s .args .map .now) in
-    omega (arith, c .priority-of .ensures, ap (λ (r : Region). priorityOf r) (c .before .region-at .ensures), priority-le (region m (s .args .c)) (s .pre .0 .walkable .priorities (s .args .c) (s .pre .1)), s .pre .0 .walkable .count, s .pre .1)
+    omega (arith, c .priority-of .ensures, ap (λ (r : Region). priorityOf r) (c .before .region-at .ensures), priority-le (region m (s .args .c)) (s .pre .tree .walkable .priorities (s .args .c) (s .pre .below)), s .pre .tree .walkable .count, s .pre .below)
 
 returns : tie.Need-returns
 unfolding rank

@@ -1,13 +1,17 @@
 -- `region_map::fault::memory_fault` meets its contract. Assumes nothing.
+use Prim.Native.Nat.{_+_}
 use borrow.Author.Needs.{needs}
+use Rattle.region_map.proofs.Bools.{not-leb}
 use Rattle.region_map.proofs.fault.memory_fault.Statement.{statement}
 use Rattle.region_map.proofs.fault.memory_fault.Tie as tie
 
-sum-over-requires : tie.Need-sum-over-requires
-sum-over-requires c κs = search needs
+sum-within-requires : tie.Need-sum-within-requires
+sum-within-requires c κs = search needs
 
 returns : tie.Need-returns
-returns c = cc
+returns c =
+    let a = c .before .before .before .args in
+    rw (c .sum-within .ensures, not-leb (a .r .«memory_start» + a .r .size) (a .memory-length))
 
 pub memory-fault-spec : {M : Type 1} → statement M
-memory-fault-spec = tie.close (tie.spec sum-over-requires returns)
+memory-fault-spec = tie.close (tie.spec sum-within-requires returns)

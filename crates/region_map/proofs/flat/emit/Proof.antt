@@ -16,11 +16,12 @@ use Rattle.region_map.specs.Contracts.{Viewed, Grows, Blank}
 use Rattle.region_map.specs.Pieces.{horizonOf, endOf}
 use Rattle.region_map.proofs.RenderLaws.{Emitted, none-emitted, all-emitted, piece-grew, one-emitted}
 use Rattle.region_map.proofs.ViewLaws.{step-leaf, still-full, kept}
+use Rattle.region_map.proofs.ViewWords.{filled-words}
 use Rattle.region_map.proofs.flat.emit.Statement.{statement}
 use Rattle.region_map.proofs.flat.emit.Tie as tie
 use Rattle.region_map.proofs.flat.backing_of.Reads as backing-of-reads
 use Rattle.region_map.proofs.flat.push_range.Reads as push-range-reads
-use Rattle.region_map.proofs.pieces.least.Reads as least-reads
+use Rattle.map_records.proofs.numbers.least.Reads as least-reads
 use Rattle.region_map.proofs.pieces.piece_at.Reads as piece-at-reads
 
 abbrev Inv-loop : tie.InvT-loop
@@ -39,12 +40,13 @@ theTable c = c .before .before .before .before .before .before .before .before .
 abbrev stop : tie.After-push-range Inv-loop μ-loop → ℕ
 stop c = c .before .before .before .before .before .least .result
 
--- where a piece ends, or the table: as `least` says, with the piece's own end
+-- where a piece ends, or the table, whichever is nearer
 ends : (c : tie.After-push-range Inv-loop μ-loop)
     → (stop c ≤ endOf (theTable c) (c .before .before .before .before .before .before .before .before .before .loop .i)) × (stop c < endOf (theTable c) (c .before .before .before .before .before .before .before .before .before .loop .i) → horizonOf (theTable c) ≤ stop c)
 ends c =
     let p = c .before .before .before .before .before .before .before .piece-at .ensures in
-    (omega (arith, c .before .before .before .before .before .least .ensures .0, p .1), λ h. c .before .before .before .before .before .least .ensures .3 (omega (arith, p .1)))
+    let l = c .before .before .before .before .before .least .ensures in
+    (omega (arith, l, p .end), λ h. omega (arith, l, p .end))
 
 -- after a turn the view is the list of the addresses passed
 turn : (c : tie.After-push-range Inv-loop μ-loop) → Grows (flat (backingOf (theMap c)) (walkRoot (theMap c)) (stop c)) (c .before .before .before .before .before .before .before .before .before .loop .view) (c .push-range .result) (c .push-range .last .0)
@@ -53,8 +55,8 @@ turn c =
     let p = c .before .before .before .before .before .before .before .piece-at in
     record {
       grew =
-          piece-grew (backingOf (theMap c)) (walkRoot (theMap c)) _ (s .pre .1 .1 .0) (s .pre .1 .1 .1 .1) (c .before .before .before .before .before .before .before .before .before .loop .i) _ (c .before .before .before .before .before .before .before .before .loop-test .taken) (c .before .before .before .before .before .before .before .before .before .loop .inv .1) (stop c) (ends c .0) (c .before .before .before .before .before .least .ensures .1) (ends c .1)
-          _ _ _ _ (p .ensures .0) (p .ensures .2) (p .ensures .3)
+          piece-grew (backingOf (theMap c)) (walkRoot (theMap c)) _ (s .pre .pieces) (s .pre .whole) (c .before .before .before .before .before .before .before .before .before .loop .i) _ (c .before .before .before .before .before .before .before .before .loop-test .taken) (c .before .before .before .before .before .before .before .before .before .loop .inv .1) (stop c) (ends c .0) (omega (arith, c .before .before .before .before .before .least .ensures)) (ends c .1)
+          _ _ _ _ (p .ensures .first) (p .ensures .region) (p .ensures .offset)
           (step-leaf (backingOf (theMap c)) _ (p .result .first) (record { 0 = stop c - 1 }) (p .result .region) (p .result .offset) (c .before .before .before .before .backing-of .result) _ (c .before .before .before .before .backing-of .ensures) (c .push-range .ensures .grew));
       blank = c .push-range .ensures .blank;
       words = c .push-range .ensures .words;
@@ -64,49 +66,51 @@ emitted : (c : tie.After-push-range Inv-loop μ-loop) (k : List FlatRange) → k
     → Emitted (backingOf (theMap c)) (walkRoot (theMap c)) (theTable c) (c .before .before .before .before .before .before .before .before .before .loop .i + 1) k
 emitted c =
     let s = c .before .before .before .before .before .before .before .before .before .before .before .before .before .before in
-    one-emitted (backingOf (theMap c)) (walkRoot (theMap c)) _ (s .pre .1 .1 .0) (s .pre .1 .1 .1 .1) (c .before .before .before .before .before .before .before .before .before .loop .i) _ (c .before .before .before .before .before .before .before .before .loop-test .taken) (c .before .before .before .before .before .before .before .before .before .loop .inv .1) (stop c) (ends c .0) (c .before .before .before .before .before .least .ensures .1) (ends c .1)
+    one-emitted (backingOf (theMap c)) (walkRoot (theMap c)) _ (s .pre .pieces) (s .pre .whole) (c .before .before .before .before .before .before .before .before .before .loop .i) _ (c .before .before .before .before .before .before .before .before .loop-test .taken) (c .before .before .before .before .before .before .before .before .before .loop .inv .1) (stop c) (ends c .0) (omega (arith, c .before .before .before .before .before .least .ensures)) (ends c .1)
 
 shared-slice-read-count : tie.Need-shared-slice-read-count Inv-loop μ-loop
-shared-slice-read-count c = omega (arith, c .before .before .before .before .pre .1 .1 .0 .size)
+shared-slice-read-count c = omega (arith, c .before .before .before .before .pre .pieces .size)
 
 loop-holds : tie.Need-loop-holds Inv-loop μ-loop
 loop-holds c =
     let s = c .before .before .before .before in
-    (s .pre .1 .0, none-emitted (backingOf (mapOf (s .args .map .now))) (walkRoot (mapOf (s .args .map .now))) _ (s .pre .1 .1 .0) _ (s .pre .1 .1 .1 .0), λ b. b)
+    (s .pre .room, none-emitted (backingOf (mapOf (s .args .map .now))) (walkRoot (mapOf (s .args .map .now))) _ (s .pre .pieces) _ (s .pre .list), λ b. b)
 
 piece-at-requires : tie.Need-piece-at-requires Inv-loop μ-loop
-piece-at-requires c κs = (c .before .before .before .before .before .before .pre .1 .1 .0 .size, omega (arith, c .loop-test .taken, c .before .before .before .before .before .before .pre .1 .1 .0 .few))
+piece-at-requires c κs = (c .before .before .before .before .before .before .pre .pieces .size, omega (arith, c .loop-test .taken, c .before .before .before .before .before .before .pre .pieces .few))
 
 shared-slice-read-least : tie.Need-shared-slice-read-least Inv-loop μ-loop
-shared-slice-read-least c = omega (arith, c .before .before .before .before .before .before .before .before .pre .1 .1 .0 .size)
+shared-slice-read-least c = omega (arith, c .before .before .before .before .before .before .before .before .pre .pieces .size)
 
 least-requires : tie.Need-least-requires Inv-loop μ-loop
 least-requires c κs = tt
 
 backing-of-requires : tie.Need-backing-of-requires Inv-loop μ-loop
-backing-of-requires c κs = (c .before .before .before .before .before .before .before .before .before .pre .0, omega (arith, c .before .before .piece-at .ensures .2, c .before .before .before .before .before .before .before .before .before .pre .1 .1 .0 .regions (c .before .before .before .before .loop .i) (c .before .before .before .loop-test .taken)))
+backing-of-requires c κs = (c .before .before .before .before .before .before .before .before .before .pre .words, omega (arith, c .before .before .piece-at .ensures .region, c .before .before .before .before .before .before .before .before .before .pre .pieces .regions (c .before .before .before .before .loop .i) (c .before .before .before .loop-test .taken)))
 
 sub-t16 : tie.Need-sub-t16 Inv-loop μ-loop
 sub-t16 c =
-    let g = c .before .before .before .before .before .before .before .before .before .before .before .before .pre .1 .1 .0 in
+    let g = c .before .before .before .before .before .before .before .before .before .before .before .before .pre .pieces in
     let p = c .before .before .before .before .before .piece-at .ensures in
     let o = g .order (c .before .before .before .before .before .before .before .loop .i) (c .before .before .before .before .before .before .loop-test .taken) in
-    c .before .before .before .least .ensures .2 (omega (arith, o, p .1)) (omega (arith, g .ahead))
+    omega (arith, c .before .before .before .least .ensures, o, p .end, g .ahead)
 
 push-range-requires : tie.Need-push-range-requires Inv-loop μ-loop
-push-range-requires c κs = c .before .before .before .before .before .before .before .before .loop .inv .0
+push-range-requires c κs =
+    let l = c .before .before .before .before .before .before .before .before .loop in
+    (l .inv .0, filled-words (l .view) (l .inv .0) (backingOf (mapOf (c .before .before .before .before .before .before .before .before .before .before .before .before .before .args .map .now))) (walkRoot (mapOf (c .before .before .before .before .before .before .before .before .before .before .before .before .before .args .map .now))) (l .inv .1 .at) (l .inv .1 .list))
 
 same-length : tie.Need-same-length Inv-loop μ-loop
-same-length c = c .before .before .before .push-range .ensures .words ∙ sym (c .before .before .before .before .before .before .before .before .before .before .before .before .before .before .before .before .before .pre .1 .0 .words)
+same-length c = c .before .before .before .push-range .ensures .words ∙ sym (c .before .before .before .before .before .before .before .before .before .before .before .before .before .before .before .before .before .pre .room .words)
 
 returns : tie.Need-returns Inv-loop μ-loop
 returns c =
     let e = c .before .before .before in
     subst (λ (b : Bool). Grows (flat (backingOf (theMap e)) (walkRoot (theMap e)) (horizonOf (theTable e))) (c .before .before .before .before .before .before .before .before .before .before .before .before .before .before .before .before .before .args .view .now) b (e .push-range .last .0)) (c .if1 .taken)
-    (record { grew = still-full _ _ _ _ _ (c .before .before .before .before .before .before .before .before .least .ensures .1) (c .if1 .taken) (turn e .grew); blank = λ b. turn e .blank (c .before .before .before .before .before .before .before .before .before .before .before .before .loop .inv .2 b); words = turn e .words })
+    (record { grew = still-full _ _ _ _ _ (omega (arith, c .before .before .before .before .before .before .before .before .least .ensures)) (c .if1 .taken) (turn e .grew); blank = λ b. turn e .blank (c .before .before .before .before .before .before .before .before .before .before .before .before .loop .inv .2 b); words = turn e .words })
 
 add-i : tie.Need-add-i Inv-loop μ-loop
-add-i c = omega (arith, c .before .before .before .before .before .before .before .before .before .before .before .loop-test .taken, c .before .before .before .before .before .before .before .before .before .before .before .before .before .before .before .before .before .pre .1 .1 .0 .few)
+add-i c = omega (arith, c .before .before .before .before .before .before .before .before .before .before .before .loop-test .taken, c .before .before .before .before .before .before .before .before .before .before .before .before .before .before .before .before .before .pre .pieces .few)
 
 loop-less : tie.Need-loop-less Inv-loop μ-loop
 loop-less c = omega (arith, c .before .before .before .before .before .before .before .before .before .before .before .loop-test .taken)
@@ -117,14 +121,14 @@ loop-again c =
     (record { words = turn e .words; few = turn e .grew .room }, emitted e _ (turn e .grew .list (c .if1 .left)), λ b. turn e .blank (c .before .before .before .before .before .before .before .before .before .before .before .before .loop .inv .2 b))
 
 same-length-2 : tie.Need-same-length-2 Inv-loop μ-loop
-same-length-2 c = c .before .loop .inv .0 .words ∙ sym (c .before .before .before .before .before .before .pre .1 .0 .words)
+same-length-2 c = c .before .loop .inv .0 .words ∙ sym (c .before .before .before .before .before .before .pre .room .words)
 
 returns-2 : tie.Need-returns-2 Inv-loop μ-loop
 returns-2 c =
     let s = c .before .before .before .before .before .before in
     let l = c .before .loop in
     record {
-      grew = kept (viewOf (l .view)) (l .inv .0 .few) _ (all-emitted (backingOf (mapOf (s .args .map .now))) (walkRoot (mapOf (s .args .map .now))) _ (s .pre .1 .1 .0) (s .pre .1 .1 .1 .1) (l .i) _ (c .loop-test .left) (l .inv .1));
+      grew = kept (viewOf (l .view)) (l .inv .0 .few) _ (all-emitted (backingOf (mapOf (s .args .map .now))) (walkRoot (mapOf (s .args .map .now))) _ (s .pre .pieces) (s .pre .whole) (l .i) _ (c .loop-test .left) (l .inv .1));
       blank = l .inv .2;
       words = l .inv .0 .words;
     }

@@ -3,7 +3,7 @@ use mathlib.Core.Path.{_≡_, sym, subst, ap, _∙_}
 use mathlib.Core.Bool.{true, false}
 use mathlib.Core.List.{List}
 use mathlib.Core.Logic.{⊎-elim}
-use Prim.Native.Nat.{ℕ, _+_, _-_, _*_, _<_}
+use Prim.Native.Nat.{ℕ, _+_, _-_, _*_, _≤_, _<_}
 use native.Mathlib.Omega.{arith}
 use lib.ListN.{length, set, length-set}
 use lib.Seq.{sets, length-sets}
@@ -40,7 +40,7 @@ grown-here c =
     let s = c .before .before .before .before .before .before .before .before .before .before .before .before .before .before .before in
     let n = c .before .before .before .before .before .before .before .before .before .before .before .before .count-of in
     subst (λ (x : List ℕ). Grows (push (entries (viewOf (s .args .view .now))) (s .args .r)) (s .args .view .now) false x) (sym (c .before .before .put-range .ensures))
-    (grew-words (s .args .view .now) (s .args .r) (s .pre) (n .result - 1) (omega (arith, n .ensures, c .before .before .before .before .before .before .before .before .before .before .before .if1 .taken)) (omega (arith, n .ensures)) (c .before .before .before .before .before .before .before .before .before .range-at .result) (c .before .before .before .before .before .before .before .before .before .range-at .ensures) (sym (c .before .before .before .before .before .before .before .before .goes-on .ensures) ∙ c .before .before .before .before .before .before .before .if2 .taken))
+    (grew-words (s .args .view .now) (s .args .r) (s .pre .0) (n .result - 1) (omega (arith, n .ensures, c .before .before .before .before .before .before .before .before .before .before .before .if1 .taken)) (omega (arith, n .ensures)) (c .before .before .before .before .before .before .before .before .before .range-at .result) (c .before .before .before .before .before .before .before .before .before .range-at .ensures) (sym (c .before .before .before .before .before .before .before .before .goes-on .ensures) ∙ c .before .before .before .before .before .before .before .if2 .taken))
 
 added-here : (c : tie.After-slice-known4)
     → Grows (push (entries (viewOf (c .before .before .before .before .before .before .before .before .before .before .before .before .before .args .view .now))) (c .before .before .before .before .before .before .before .before .before .before .before .before .before .args .r)) (c .before .before .before .before .before .before .before .before .before .before .before .before .before .args .view .now) false (c .before .before .put-count .last .0)
@@ -49,7 +49,7 @@ added-here c =
     let n = c .before .before .before .before .before .before .before .before .before .before .count-of in
     subst (λ (x : List ℕ). Grows (push (entries (viewOf (s .args .view .now))) (s .args .r)) (s .args .view .now) false x)
     (sym (c .before .before .put-count .ensures ∙ ap (λ (x : List ℕ). set x 0 (n .result + 1)) (c .before .before .before .before .before .before .put-range2 .ensures)))
-    (added-words (s .args .view .now) (s .args .r) (s .pre) (behind (c .before .before .before .before .before .before .before .before .before)) (n .result) (n .ensures) (omega (arith, c .before .before .before .before .before .before .before .before .if3 .left, n .ensures, s .pre .few)))
+    (added-words (s .args .view .now) (s .args .r) (s .pre .0) (behind (c .before .before .before .before .before .before .before .before .before)) (n .result) (n .ensures) (omega (arith, c .before .before .before .before .before .before .before .before .if3 .left, n .ensures, s .pre .0 .few)))
 
 count-of-requires : tie.Need-count-of-requires
 count-of-requires c κs = search needs
@@ -58,16 +58,20 @@ sub-k : tie.Need-sub-k
 sub-k c = search needs
 
 range-at-requires : tie.Need-range-at-requires
-range-at-requires c κs = (c .before .before .before .before .before .pre .words, omega (arith, c .before .if1 .taken, c .before .before .count-of .ensures, c .before .before .before .before .before .pre .few))
+range-at-requires c κs = (c .before .before .before .before .before .pre .0 .words, omega (arith, c .before .if1 .taken, c .before .before .count-of .ensures, c .before .before .before .before .before .pre .0 .few))
 
 goes-on-requires : tie.Need-goes-on-requires
-goes-on-requires c κs = search needs
+goes-on-requires c κs =
+    let n = c .before .before .before .count-of .ensures in
+    let k = c .before .before .before .count-of .result - 1 in
+    subst (λ (x : FlatRange). x .first .0 ≤ x .last .0) (sym (c .range-at .ensures))
+    (c .before .before .before .before .before .before .pre .1 k (omega (arith, n, c .before .before .if1 .taken)))
 
 put-range-requires : tie.Need-put-range-requires
-put-range-requires c κs = (c .before .before .before .before .before .before .before .before .before .before .before .before .pre .words, omega (arith, c .before .before .before .before .before .before .before .before .if1 .taken, c .before .before .before .before .before .before .before .before .before .count-of .ensures, c .before .before .before .before .before .before .before .before .before .before .before .before .pre .few))
+put-range-requires c κs = (c .before .before .before .before .before .before .before .before .before .before .before .before .pre .0 .words, omega (arith, c .before .before .before .before .before .before .before .before .if1 .taken, c .before .before .before .before .before .before .before .before .before .count-of .ensures, c .before .before .before .before .before .before .before .before .before .before .before .before .pre .0 .few))
 
 same-length : tie.Need-same-length
-same-length c = grown-here c .words ∙ sym (c .before .before .before .before .before .before .before .before .before .before .before .before .before .before .before .pre .words)
+same-length c = grown-here c .words ∙ sym (c .before .before .before .before .before .before .before .before .before .before .before .before .before .before .before .pre .0 .words)
 
 returns : tie.Need-returns
 returns c = grown-here c
@@ -76,19 +80,19 @@ same-length-2 : tie.Need-same-length-2
 same-length-2 c = search needs
 
 returns-2 : tie.Need-returns-2
-returns-2 c = refused-words (c .before .before .before .before .before .args .view .now) (c .before .before .before .before .before .args .r) (c .before .before .before .before .before .pre) (behind (c .before)) (sym (c .before .before .count-of .ensures) ∙ c .if3 .taken)
+returns-2 c = refused-words (c .before .before .before .before .before .args .view .now) (c .before .before .before .before .before .args .r) (c .before .before .before .before .before .pre .0) (behind (c .before)) (sym (c .before .before .count-of .ensures) ∙ c .if3 .taken)
 
 put-range-requires-2 : tie.Need-put-range-requires-2
-put-range-requires-2 c κs = (c .before .before .before .before .before .before .pre .words, omega (arith, c .before .if3 .left, c .before .before .before .count-of .ensures, c .before .before .before .before .before .before .pre .few))
+put-range-requires-2 c κs = (c .before .before .before .before .before .before .pre .0 .words, omega (arith, c .before .if3 .left, c .before .before .before .count-of .ensures, c .before .before .before .before .before .before .pre .0 .few))
 
 add-put-count : tie.Need-add-put-count
 add-put-count c = search needs
 
 put-count-requires : tie.Need-put-count-requires
-put-count-requires c κs = ap length (c .before .before .before .put-range2 .ensures) ∙ length-sets {A = ℕ} (c .before .before .before .before .before .before .before .before .before .before .args .view .now) (1 + 6 * c .before .before .before .before .before .before .before .count-of .result) (rangeWords (c .before .before .before .before .before .before .before .before .before .before .args .r)) ∙ c .before .before .before .before .before .before .before .before .before .before .pre .words
+put-count-requires c κs = ap length (c .before .before .before .put-range2 .ensures) ∙ length-sets {A = ℕ} (c .before .before .before .before .before .before .before .before .before .before .args .view .now) (1 + 6 * c .before .before .before .before .before .before .before .count-of .result) (rangeWords (c .before .before .before .before .before .before .before .before .before .before .args .r)) ∙ c .before .before .before .before .before .before .before .before .before .before .pre .0 .words
 
 same-length-3 : tie.Need-same-length-3
-same-length-3 c = added-here c .words ∙ sym (c .before .before .before .before .before .before .before .before .before .before .before .before .before .pre .words)
+same-length-3 c = added-here c .words ∙ sym (c .before .before .before .before .before .before .before .before .before .before .before .before .before .pre .0 .words)
 
 returns-3 : tie.Need-returns-3
 returns-3 c = added-here c

@@ -61,18 +61,20 @@ slice-aggregate-begin c = sym (c .before .before .loop .inv .4)
 begin-requires : tie.Need-begin-requires Inv-loop μ-loop
 begin-requires c κs = (c .before .before .loop .inv .4, c .before .loop-test .taken, bounded (c .before .before .before))
 
-slice-aggregate-render : tie.Need-slice-aggregate-render Inv-loop μ-loop
-slice-aggregate-render c = sym (c .before .before .begin .ensures .0 .size)
-
 root-offset-requires : tie.Need-root-offset-requires Inv-loop μ-loop
 root-offset-requires c κs = tt
+
+slice-aggregate-render : tie.Need-slice-aggregate-render Inv-loop μ-loop
+slice-aggregate-render c = sym (c .before .before .before .begin .ensures .kept .size)
 
 render-requires : tie.Need-render-requires Inv-loop μ-loop
 render-requires c κs =
     let s = c .before .before .before .before .before .before .before .before .before .before .before in
     let b = c .before .before .before .begin .ensures in
-    let z = bounded (c .before .before .before .before .before .before .before) in
-    ((s .pre .0 .0, below (c .before .before .before .before .before .before .before)), (b .0, (omega (arith, b .2), z, omega (arith, z, c .root-offset .ensures, c .before .before .before .before .before .loop-test .taken))))
+    let z = bounded (c .before .before .before .before .before .before .before) in (
+      record { tree = s .pre .0 .0; below = below (c .before .before .before .before .before .before .before) },
+      record { kept = b .kept; from = omega (arith, b .first); to = z; offset = omega (arith, z, c .before .root-offset .ensures, c .before .before .before .before .before .loop-test .taken) },
+    )
 
 slice-aggregate-emit : tie.Need-slice-aggregate-emit Inv-loop μ-loop
 slice-aggregate-emit c = sym (c .before .before .before .render .ensures .kept .size)
@@ -83,19 +85,14 @@ emit-requires c κs =
     let a = c .before .before .before .before .before .before .before .before .before .before .before in
     let l = c .before .before .before .before .before .before .before .before .before .before .loop in
     let b = c .before .before .before .before .before .before .before .begin .ensures in
-    let r = c .before .before .before .render .ensures in (
-      s .pre .0 .0 .words,
-      (
-        l .inv .1,
-        (
-          r .kept,
-          (
-            l .inv .2 ∙ ap (flat (backingOf (theMap a)) (walkRoot (theMap a))) (sym (r .start ∙ b .2)),
-            whole-from (theMap a) _ (is-root a) _ _ _ _ _ (b .1) (b .2) (b .3) (c .before .before .before .before .root-offset .ensures) r,
-          ),
-        ),
-      ),
-    )
+    let r = c .before .before .before .render .ensures in
+    record {
+      words = s .pre .0 .0 .words;
+      room = l .inv .1;
+      pieces = r .kept;
+      list = l .inv .2 ∙ ap (flat (backingOf (theMap a)) (walkRoot (theMap a))) (sym (r .start ∙ b .first));
+      whole = whole-from (theMap a) _ (is-root a) _ _ _ _ _ (b .none) (b .first) (b .horizon) (c .before .before .before .before .before .root-offset .ensures) r;
+    }
 
 same-length : tie.Need-same-length Inv-loop μ-loop
 same-length c = c .before .before .before .emit .ensures .words ∙ sym (c .before .before .before .before .before .before .before .before .before .before .before .before .before .before .before .before .before .before .before .pre .1 .0)
@@ -107,7 +104,7 @@ returns c =
     let a = c .before .before .before .before .before .before .before .before .before .before .before .before .before .before .before in
     subst (λ (b : Bool). Grows (flatList (theMap a)) (c .before .before .before .before .before .before .before .before .before .before .before .before .before .before .before .before .before .before .before .args .view .now) b (c .before .before .before .emit .last .1 .0)) (c .if1 .taken)
     (record {
-      grew = still-full _ _ _ _ _ (omega (arith, c .before .before .before .before .before .before .before .render .ensures .within, c .before .before .before .before .before .before .before .before .before .before .before .begin .ensures .3, sized a)) (c .if1 .taken) (e .grew);
+      grew = still-full _ _ _ _ _ (omega (arith, c .before .before .before .before .before .before .before .render .ensures .within, c .before .before .before .before .before .before .before .before .before .before .before .begin .ensures .horizon, sized a)) (c .if1 .taken) (e .grew);
       blank = λ b. e .blank (c .before .before .before .before .before .before .before .before .before .before .before .before .before .before .loop .inv .3 b);
       words = e .words;
     })
@@ -119,13 +116,13 @@ loop-less : tie.Need-loop-less Inv-loop μ-loop
 loop-less c =
     let b = c .before .before .before .before .before .before .before .before .before .before .before .begin .ensures in
     let r = c .before .before .before .before .before .before .before .render .ensures in
-    omega (arith, c .before .before .before .before .before .before .before .before .before .before .before .before .before .loop-test .taken, b .2, b .3, r .start, r .within, r .kept .ahead)
+    omega (arith, c .before .before .before .before .before .before .before .before .before .before .before .before .before .loop-test .taken, b .first, b .horizon, r .start, r .within, r .kept .ahead)
 
 loop-again : tie.Need-loop-again Inv-loop μ-loop
 loop-again c =
     let e = c .before .before .before .emit .ensures in
     let r = c .before .before .before .before .before .before .before .render .ensures in
-    (omega (arith, r .within, c .before .before .before .before .before .before .before .before .before .before .before .begin .ensures .3), record { words = e .words; few = e .grew .room }, e .grew .list (c .if1 .left), λ b. e .blank (c .before .before .before .before .before .before .before .before .before .before .before .before .before .before .loop .inv .3 b), r .kept .size)
+    (omega (arith, r .within, c .before .before .before .before .before .before .before .before .before .before .before .begin .ensures .horizon), record { words = e .words; few = e .grew .room }, e .grew .list (c .if1 .left), λ b. e .blank (c .before .before .before .before .before .before .before .before .before .before .before .before .before .before .loop .inv .3 b), r .kept .size)
 
 same-length-2 : tie.Need-same-length-2 Inv-loop μ-loop
 same-length-2 c = c .before .loop .inv .1 .words ∙ sym (c .before .before .before .before .before .before .pre .1 .0)
@@ -154,8 +151,8 @@ sweep-spec =
     loop-holds
     slice-aggregate-begin
     begin-requires
-    slice-aggregate-render
     root-offset-requires
+    slice-aggregate-render
     render-requires
     slice-aggregate-emit
     emit-requires

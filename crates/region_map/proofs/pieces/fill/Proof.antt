@@ -10,22 +10,22 @@ use Rattle.region_map.proofs.pieces.fill.Statement.{statement}
 use Rattle.region_map.proofs.pieces.fill.Tie as tie
 
 abbrev Inv-loop : tie.InvT-loop
-Inv-loop table₀ region first offset end a₀ i₀ table a i = Filled table₀ region (first .0) (offset .0) (end .0) table a i
+Inv-loop table₀ region at a₀ i₀ table a i = Filled table₀ region (at .first .0) (at .offset .0) (at .end .0) table a i
 
 abbrev μ-loop : tie.MeasureT-loop
-μ-loop table₀ region first offset end a₀ i₀ table a i = end .0 - a
+μ-loop table₀ region at a₀ i₀ table a i = at .end .0 - a
 
 spot-requires : tie.Need-spot-requires Inv-loop μ-loop
-spot-requires c κs = c .before .before .pre .0
+spot-requires c κs = c .before .before .pre .0 .kept
 
 loop-holds : tie.Need-loop-holds Inv-loop μ-loop
-loop-holds c = filled-first (c .before .before .before .pre .0) (c .spot .ensures)
+loop-holds c = filled-first (c .before .before .before .pre .0 .kept) (c .spot .ensures)
 
 slice-read-if2 : tie.Need-slice-read-if2 Inv-loop μ-loop
 slice-read-if2 c = omega (arith, c .before .before .before .loop .inv .kept .size)
 
 same-length : tie.Need-same-length Inv-loop μ-loop
-same-length c = c .before .before .before .before .loop .inv .kept .size ∙ sym (c .before .before .before .before .before .before .before .before .pre .0 .size)
+same-length c = c .before .before .before .before .loop .inv .kept .size ∙ sym (c .before .before .before .before .before .before .before .before .pre .0 .kept .size)
 
 returns : tie.Need-returns Inv-loop μ-loop
 returns c = filled-horizon (c .before .before .before .before .loop .inv) (c .if2 .taken)
@@ -59,7 +59,7 @@ slice-write-table c = omega (arith, c .before .before .before .before .before .b
 same-length-2 : tie.Need-same-length-2 Inv-loop μ-loop
 same-length-2 c =
     let l = c .before .before .before .before .before .before .before .before .loop in
-    length-set (l .table) 1 (l .a) ∙ l .inv .kept .size ∙ sym (c .before .before .before .before .before .before .before .before .before .before .before .before .pre .0 .size)
+    length-set (l .table) 1 (l .a) ∙ l .inv .kept .size ∙ sym (c .before .before .before .before .before .before .before .before .before .before .before .before .pre .0 .kept .size)
 
 returns-2 : tie.Need-returns-2 Inv-loop μ-loop
 returns-2 c = filled-cut (c .before .before .before .before .before .before .before .before .loop .inv) (c .if4 .taken) (omega (arith, c .before .before .before .before .if2 .left))
@@ -70,7 +70,7 @@ sub-gone c = c .before .before .before .before .before .before .before .before .
 add-there : tie.Need-add-there Inv-loop μ-loop
 add-there c =
     let s = c .before .before .before .before .before .before .before .before .before .before .before .before .before .before in
-    omega (arith, c .before .before .before .before .before .before .before .before .if1 .taken, s .pre .1 .2, s .pre .1 .3)
+    omega (arith, c .before .before .before .before .before .before .before .before .if1 .taken, s .pre .0 .to, s .pre .0 .offset)
 
 insert-requires : tie.Need-insert-requires Inv-loop μ-loop
 insert-requires c κs =
@@ -78,7 +78,7 @@ insert-requires c κs =
     let s = c .before .before .before .before .before .before .before .before .before .before .before .before .before .before .before in (
       f .kept,
       filled-fits f _ (c .before .before .before .before .before .free-until .ensures) (c .before .before .before .before .if3 .left) (c .before .before .before .if4 .left) (omega (arith, c .before .before .before .before .before .before .before .if2 .left))
-          (s .pre .1 .1) (s .pre .1 .2) (s .pre .1 .0),
+          (s .pre .0 .from) (s .pre .0 .to) (s .pre .1),
     )
 
 add-i : tie.Need-add-i Inv-loop μ-loop
@@ -99,7 +99,7 @@ loop-again-2 c =
     filled-put f (stop .result) _ (omega (arith, stop .ensures .low, c .before .before .before .before .before .before .before .if3 .left)) (stop .ensures .high) (put .0) (put .1)
 
 same-length-3 : tie.Need-same-length-3 Inv-loop μ-loop
-same-length-3 c = c .before .before .loop .inv .kept .size ∙ sym (c .before .before .before .before .before .before .pre .0 .size)
+same-length-3 c = c .before .before .loop .inv .kept .size ∙ sym (c .before .before .before .before .before .before .pre .0 .kept .size)
 
 returns-3 : tie.Need-returns-3 Inv-loop μ-loop
 returns-3 c = filled-end (c .before .before .loop .inv) (omega (arith, c .if1 .left))

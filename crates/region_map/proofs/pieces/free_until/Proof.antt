@@ -20,11 +20,10 @@ least-requires c κs = search needs
 returns-2 : tie.Need-returns-2
 returns-2 c =
     let s = c .before .before .before .before .before .before .before in
-    let e = c .before .before .before .piece-at .ensures .0 in
-    let l = c .least .ensures in
+    let e = c .before .before .before .piece-at .ensures .first in
     free-least (s .args .table .now) (s .args .i) (s .args .a) (s .args .end) (c .least .result)
-    (c .before .before .before .before .if1 .taken) (omega (arith, c .before .if2 .left, e)) (s .pre .1 .1) (omega (arith, l .0, e)) (l .1)
-    (λ h. l .3 (omega (arith, e)))
+    (c .before .before .before .before .if1 .taken) (omega (arith, c .before .if2 .left, e)) (s .pre .1 .1) (omega (arith, c .least .ensures, e)) (omega (arith, c .least .ensures))
+    (λ h. omega (arith, c .least .ensures, e))
 
 returns-3 : tie.Need-returns-3
 returns-3 c = search needs

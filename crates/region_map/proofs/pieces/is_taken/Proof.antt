@@ -15,7 +15,7 @@ piece-at-requires c κs = search needs
 returns : tie.Need-returns
 returns c =
     let s = c .before .before .before .before .before in
-    rw (lt-ltb (s .args .i) (countOf (s .args .table .now)) (c .before .before .if1 .taken), c .before .piece-at .ensures .0)
+    rw (lt-ltb (s .args .i) (countOf (s .args .table .now)) (c .before .before .if1 .taken), c .before .piece-at .ensures .first)
 
 returns-2 : tie.Need-returns-2
 returns-2 c =

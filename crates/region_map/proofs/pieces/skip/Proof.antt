@@ -24,7 +24,7 @@ add-at c = omega (arith, c .before .before .pre .1, c .before .before .pre .0 .f
 loop-holds : tie.Need-loop-holds Inv-loop μ-loop
 loop-holds c =
     let s = c .before .before in
-    rw (c .piece-at .ensures .1) (run-one (s .pre .0) (s .args .i) (s .pre .1))
+    rw (c .piece-at .ensures .end) (run-one (s .pre .0) (s .args .i) (s .pre .1))
 
 is-taken-requires : tie.Need-is-taken-requires Inv-loop μ-loop
 is-taken-requires c κs = c .before .before .before .pre .0
@@ -56,7 +56,7 @@ loop-again c =
     let l = c .before .before .before .loop in
     let asked = c .before .before .is-taken in
     let t = taken-on (s .args .table .now) (l .at) (l .address) (ltb (l .address) (s .args .end)) (asked .result) (asked .ensures) (c .before .if1 .taken) in
-    rw (c .piece-at2 .ensures .1) (run-more (s .pre .0) (l .inv) (t .0) (t .1))
+    rw (c .piece-at2 .ensures .end) (run-more (s .pre .0) (l .inv) (t .0) (t .1))
 
 returns : tie.Need-returns Inv-loop μ-loop
 returns c = c .before .before .loop .inv

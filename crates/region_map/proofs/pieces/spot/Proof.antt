@@ -47,7 +47,7 @@ loop-again : tie.Need-loop-again Inv-loop μ-loop
 loop-again c =
     halved-up _ (c .before .before .before .before .before .before .before .pre) (c .before .before .before .before .loop .inv)
     (omega (arith, c .before .before .before .loop-test .taken))
-    (omega (arith, c .if1 .taken, c .before .before .piece-at .ensures .1))
+    (omega (arith, c .if1 .taken, c .before .before .piece-at .ensures .end))
 
 loop-less-2 : tie.Need-loop-less-2 Inv-loop μ-loop
 loop-less-2 c = omega (arith, c .before .before .before .loop-test .taken)
@@ -56,7 +56,7 @@ loop-again-2 : tie.Need-loop-again-2 Inv-loop μ-loop
 loop-again-2 c =
     halved-down _ (c .before .before .before .before .loop .inv) (omega arith)
     (omega (arith, c .before .before .before .loop-test .taken))
-    (omega (arith, c .if1 .left, c .before .before .piece-at .ensures .1))
+    (omega (arith, c .if1 .left, c .before .before .piece-at .ensures .end))
 
 returns : tie.Need-returns Inv-loop μ-loop
 returns c = halved-spot (c .before .loop .inv) (omega (arith, c .loop-test .left))

@@ -1,13 +1,14 @@
 -- `region_map::render::render` and `render_children` meet their contracts, as one cycle of calls: the measure is the region number and the children left. Assumes nothing.
-use mathlib.Core.Path.{_∙_}
+use mathlib.Core.Bool.{true}
+use mathlib.Core.Path.{_≡_, _∙_}
 use mathlib.Core.Logic.{⊎-elim}
 use native.Mathlib.Omega.{arith}
-use Rattle.region_map.specs.Walk.{walk, walkBelow, answer}
+use Rattle.region_map.specs.Walk.{ranked, walk, walkBelow, answer}
 use Rattle.region_map.specs.Pieces.{window, Behind}
 use Rattle.map_records.specs.Words.{mapOf}
 use Rattle.region_map.proofs.WalkLaws.{is-child, child-below}
 use Rattle.region_map.proofs.RenderLaws.{behind-at, behind-size, region-facts, nothing-there, some-there, not-reached, through-alias, through-children, the-node, no-node, child-then, child-begun, child-ahead, child-beyond}
-use Prim.Native.Nat.{ℕ, _+_, _-_, _*_, _<_}
+use Prim.Native.Nat.{ℕ, _+_, _-_, _*_, _%_, _^_, _≤_, _<_}
 use borrow.Fn.Kinds.{In}
 use borrow.Fn.PlainCycle.{Measures, is, falls, and}
 use Rattle.region_map.proofs.render.render.Reads as render
@@ -18,7 +19,7 @@ use Rattle.region_map.proofs.render.render_children.Kinds as render-chi
 use Rattle.region_map.proofs.render.+render+render_children.Lts-render_children as render-children-lts
 use Rattle.region_map.proofs.children.next_child.Reads as next-child-reads
 use Rattle.region_map.proofs.pieces.fill.Reads as fill-reads
-use Rattle.region_map.proofs.pieces.least.Reads as least-reads
+use Rattle.map_records.proofs.numbers.least.Reads as least-reads
 use Rattle.map_records.proofs.words.region_at.Reads as region-at-reads
 use Rattle.region_map.proofs.render.+render+render_children.{statement}
 use Rattle.region_map.proofs.render.+render+render_children.Tie.{close}
@@ -27,7 +28,7 @@ abbrev μ-render : Measures 2 render-kinds.ps ℕ
 μ-render κs a = a .1 .1 .0 * 16384 + 8193
 
 abbrev μ-render-children : Measures 2 render-children-kinds.ps ℕ
-μ-render-children κs a = a .1 .1 .0 * 16384 + a .1 .1 .1 .1 .1 .1 .0
+μ-render-children κs a = a .1 .1 .0 * 16384 + a .1 .1 .1 .1 .0
 
 abbrev render-at : ℕ → In 2 render-kinds.ps
 render-at t = and 2 render-kinds.ps (is 2 render-kinds.ps μ-render t) render.Pre
@@ -58,228 +59,232 @@ render-calls t = (region-at-reads.Asked, region-at-reads.Learnt, least-reads.Ask
 abbrev children-calls : ℕ → render-children-lts.Claims
 children-calls t = (next-child-reads.Asked, next-child-reads.Learnt, region-at-reads.Asked, region-at-reads.Learnt, fill-reads.Asked, fill-reads.Learnt, render-below t, render.Post, render-children-below t, render-children.Post)
 
+-- where a window and a region meet: the function's start, the region read, and what is known of both
+abbrev Meet : ℕ → Type 0
+Meet t = render-lts.Else1 (render-calls t) (render-at t) render.Post
+
+abbrev start : (t : ℕ) → Meet t → render-lts.Start (render-calls t) (render-at t) render.Post
+start t c = c .before .before .before .before .before .before .before .before .before
+
+some : (t : ℕ) (c : Meet t) → (start t c .args .at .first .0 < start t c .args .at .end .0) × (start t c .args .at .offset .0 < c .before .before .before .before .before .before .region-at .result .size)
+some t c =
+    let a = start t c .args .at in
+    some-there (c .before .before .before .before .before .before .region-at .result .size) (a .first .0) (a .offset .0) (a .end .0) (c .if1 .left)
+
+known : (t : ℕ) (c : Meet t) → let x = c .before .before .before .before .before .before .region-at .result in (x .size ≤ 2 ^ 48) × (x .«alias_offset» ≤ 2 ^ 48) × (x .kind ≡ 3 → x .target < start t c .args .n)
+known t c =
+    let s = start t c in
+    let x = c .before .before .before .before .before .before .region-at in
+    region-facts (mapOf (s .args .map .now)) (s .args .n) (x .result) (x .ensures) (s .pre .1 .0 .tree .walkable) (s .pre .1 .0 .below)
+
 render-region-at-requires : (t : ℕ) → render-lts.Need-region-at-requires (render-calls t) (render-at t) render.Post
 render-region-at-requires t c κs =
-    let s = c .before .before in
-    (s .pre .1 .0 .0 .words, omega (arith, s .pre .1 .0 .1, s .pre .1 .0 .0 .walkable .count))
+    let s = c .before .before .pre .1 .0 in
+    (s .tree .words, omega (arith, s .below, s .tree .walkable .count))
 
 render-returns : (t : ℕ) → render-lts.Need-returns (render-calls t) (render-at t) render.Post
 render-returns t c =
-    let s = c .before .before .before .before .before .before .before in
+    let s = c .before .before .before .before .before .before .before .before .before in
     let a = s .args in
-    let m = mapOf (a .map .now) in
-    let x = c .before .before .before .before .region-at in
-    nothing-there m (a .n) (x .result) (x .ensures) _ (a .first .0) (a .offset .0) (a .end .0) (s .pre .1 .1 .0) (c .if1 .taken)
+    let x = c .before .before .before .before .before .before .region-at in
+    nothing-there (mapOf (a .map .now)) (a .n) (x .result) (x .ensures) _ (a .at .first .0) (a .at .offset .0) (a .at .end .0) (s .pre .1 .1 .kept) (c .if1 .taken)
 
 render-slice-read-if2 : (t : ℕ) → render-lts.Need-slice-read-if2 (render-calls t) (render-at t) render.Post
-render-slice-read-if2 t c = omega (arith, c .before .before .before .before .before .before .before .before .pre .1 .1 .0 .size)
+render-slice-read-if2 t c = omega (arith, c .before .before .before .before .before .before .before .before .before .before .pre .1 .1 .kept .size)
 
 render-returns-2 : (t : ℕ) → render-lts.Need-returns-2 (render-calls t) (render-at t) render.Post
 render-returns-2 t c =
-    let s = c .before .before .before .before .before .before .before .before .before .before in
-    let a = s .args in
-    not-reached (walk (mapOf (a .map .now)) (a .n)) _ (a .first .0) (a .offset .0) (a .end .0) (s .pre .1 .1 .0) (c .if2 .taken)
-
-render-sub-least : (t : ℕ) → render-lts.Need-sub-least (render-calls t) (render-at t) render.Post
-render-sub-least t c =
     let s = c .before .before .before .before .before .before .before .before .before .before .before .before in
     let a = s .args in
-    let x = c .before .before .before .before .before .before .before .before .before .region-at in
-    let h = some-there (x .result .size) (a .first .0) (a .offset .0) (a .end .0) (c .before .before .before .before .before .if1 .left) in
-    omega (arith, h .0)
+    not-reached (walk (mapOf (a .map .now)) (a .n)) _ (a .at .first .0) (a .at .offset .0) (a .at .end .0) (s .pre .1 .1 .kept) (c .if2 .taken)
+
+render-sub-least : (t : ℕ) → render-lts.Need-sub-least (render-calls t) (render-at t) render.Post
+render-sub-least t c = omega (arith, some t (c .before .before .before .before .before) .0)
 
 render-sub-least-2 : (t : ℕ) → render-lts.Need-sub-least-2 (render-calls t) (render-at t) render.Post
-render-sub-least-2 t c =
-    let s = c .before .before .before .before .before .before .before .before .before .before .before .before .before in
-    let a = s .args in
-    let x = c .before .before .before .before .before .before .before .before .before .before .region-at in
-    let h = some-there (x .result .size) (a .first .0) (a .offset .0) (a .end .0) (c .before .before .before .before .before .before .if1 .left) in
-    omega (arith, h .1)
+render-sub-least-2 t c = omega (arith, some t (c .before .before .before .before .before .before) .1)
 
 render-least-requires : (t : ℕ) → render-lts.Need-least-requires (render-calls t) (render-at t) render.Post
 render-least-requires t c κs = tt
 
-render-add-stop : (t : ℕ) → render-lts.Need-add-stop (render-calls t) (render-at t) render.Post
-render-add-stop t c =
-    let s = c .before .before .before .before .before .before .before .before .before .before .before .before .before .before .before in
-    let a = s .args in
-    let x = c .before .before .before .before .before .before .before .before .before .before .before .before .region-at in
-    let h = some-there (x .result .size) (a .first .0) (a .offset .0) (a .end .0) (c .before .before .before .before .before .before .before .before .if1 .left) in
-    omega (arith, h .0, s .pre .1 .1 .1 .1, c .before .least .ensures .0)
+render-add-t18 : (t : ℕ) → render-lts.Need-add-t18 (render-calls t) (render-at t) render.Post
+render-add-t18 t c = omega (arith, some t (c .before .before .before .before .before .before .before .before) .0, c .before .before .before .before .before .before .before .before .before .before .before .before .before .before .before .before .before .pre .1 .1 .to, c .before .least .ensures)
 
-render-add-t20 : (t : ℕ) → render-lts.Need-add-t20 (render-calls t) (render-at t) render.Post
-render-add-t20 t c =
-    let s = c .before .before .before .before .before .before .before .before .before .before .before .before .before .before .before .before .before .before .before .before in
-    let a = s .args in
-    let m = mapOf (a .map .now) in
-    let x = c .before .before .before .before .before .before .before .before .before .before .before .before .before .before .before .before .before .region-at in
-    let h = some-there (x .result .size) (a .first .0) (a .offset .0) (a .end .0) (c .before .before .before .before .before .before .before .before .before .before .before .before .before .if1 .left) in
-    let f = region-facts m (a .n) (x .result) (x .ensures) (s .pre .1 .0 .0 .walkable) (s .pre .1 .0 .1) in
-    omega (arith, h .1, f .0, f .1)
+render-add-t19 : (t : ℕ) → render-lts.Need-add-t19 (render-calls t) (render-at t) render.Post
+render-add-t19 t c =
+    let e = c .before .before .before .before .before .before .before .before .before .before .before .before in
+    let f = known t e in
+    omega (arith, some t e .1, f .0, f .1)
 
 render-render-requires : (t : ℕ) → render-lts.Need-render-requires (render-calls t) (render-at t) render.Post
 render-render-requires t c κs =
-    let s = c .before .before .before .before .before .before .before .before .before .before .before .before .before .before .before .before .before .before .before .before in
-    let a = s .args in
-    let m = mapOf (a .map .now) in
-    let x = c .before .before .before .before .before .before .before .before .before .before .before .before .before .before .before .before .before .region-at in
-    let h = some-there (x .result .size) (a .first .0) (a .offset .0) (a .end .0) (c .before .before .before .before .before .before .before .before .before .before .before .before .before .if1 .left) in
-    let f = region-facts m (a .n) (x .result) (x .ensures) (s .pre .1 .0 .0 .walkable) (s .pre .1 .0 .1) in
-    let k = f .2 (c .before .before .before .if3 .taken) in (
-      omega (arith, k, s .pre .0),
+    let s = c .before .before .before .before .before .before .before .before .before .before .before .before .before .before .before .before .before .before .before .before .before .before in
+    let e = c .before .before .before .before .before .before .before .before .before .before .before .before .before in
+    let h = some t e in
+    let f = known t e in
+    let low = f .2 (c .before .before .before .if3 .taken) in
+    let w = s .pre .1 .1 in (
+      omega (arith, low, s .pre .0),
       (
-        (s .pre .1 .0 .0, omega (arith, k, s .pre .1 .0 .1)),
-        (s .pre .1 .1 .0, (s .pre .1 .1 .1 .0, omega (arith, h .0, s .pre .1 .1 .1 .1, c .before .before .before .before .before .before .least .ensures .0), omega (arith, h .1, f .0, f .1))),
+        record { tree = s .pre .1 .0 .tree; below = omega (arith, low, s .pre .1 .0 .below) },
+        record { kept = w .kept; from = w .from; to = omega (arith, h .0, w .to, c .before .before .before .before .before .before .least .ensures); offset = omega (arith, h .1, f .0, f .1) },
       ),
     )
 
 render-render-children-requires : (t : ℕ) → render-lts.Need-render-children-requires (render-calls t) (render-at t) render.Post
 render-render-children-requires t c κs =
-    let s = c .before .before .before .before .before .before .before .before .before .before .before .before .before .before .before .before .before .before in
-    let a = s .args in
-    let m = mapOf (a .map .now) in
-    let x = c .before .before .before .before .before .before .before .before .before .before .before .before .before .before .before .region-at in
-    let h = some-there (x .result .size) (a .first .0) (a .offset .0) (a .end .0) (c .before .before .before .before .before .before .before .before .before .before .before .if1 .left) in
-    let f = region-facts m (a .n) (x .result) (x .ensures) (s .pre .1 .0 .0 .walkable) (s .pre .1 .0 .1) in (
+    let s = c .before .before .before .before .before .before .before .before .before .before .before .before .before .before .before .before .before .before .before .before in
+    let e = c .before .before .before .before .before .before .before .before .before .before .before in
+    let h = some t e in
+    let f = known t e in
+    let w = s .pre .1 .1 in (
       omega (arith, s .pre .0),
       (
-        (s .pre .1 .0 .0, s .pre .1 .0 .1, omega arith),
-        (s .pre .1 .1 .0, (s .pre .1 .1 .1 .0, omega (arith, h .0), omega (arith, h .0, s .pre .1 .1 .1 .1, c .before .before .before .before .least .ensures .0), omega (arith, h .1, f .0))),
+        (s .pre .1 .0, omega arith),
+        (
+          record { kept = w .kept; from = w .from; to = omega (arith, h .0, w .to, c .before .before .before .before .least .ensures); offset = w .offset },
+          omega arith,
+          omega (arith, h .1, f .0),
+        ),
       ),
     )
 
 render-same-length : (t : ℕ) → render-lts.Need-same-length (render-calls t) (render-at t) render.Post
-render-same-length t c = behind-size (c .before .before .before .before .before .before .before .before .before .before .before .before .before .before .before .before .before .before .before .before .before .before .before .pre .1 .1 .0) (c .before .before .render .ensures)
+render-same-length t c = behind-size (c .before .before .before .before .before .before .before .before .before .before .before .before .before .before .before .before .before .before .before .before .before .before .before .before .before .pre .1 .1 .kept) (c .before .before .render .ensures)
 
 render-returns-3 : (t : ℕ) → render-lts.Need-returns-3 (render-calls t) (render-at t) render.Post
 render-returns-3 t c =
-    let s = c .before .before .before .before .before .before .before .before .before .before .before .before .before .before .before .before .before .before .before .before .before .before .before in
+    let s = c .before .before .before .before .before .before .before .before .before .before .before .before .before .before .before .before .before .before .before .before .before .before .before .before .before in
     let a = s .args in
-    let m = mapOf (a .map .now) in
-    let x = c .before .before .before .before .before .before .before .before .before .before .before .before .before .before .before .before .before .before .before .before .region-at in
-    let h = some-there (x .result .size) (a .first .0) (a .offset .0) (a .end .0) (c .before .before .before .before .before .before .before .before .before .before .before .before .before .before .before .before .if1 .left) in
+    let e = c .before .before .before .before .before .before .before .before .before .before .before .before .before .before .before .before in
+    let h = some t e in
+    let x = c .before .before .before .before .before .before .before .before .before .before .before .before .before .before .before .before .before .before .before .before .before .before .region-at in
     let l = c .before .before .before .before .before .before .before .before .before .least in
-    through-alias m (a .n) (x .result) (x .ensures) (a .first .0) (a .offset .0) (a .end .0) (l .result) (h .0) (h .1) (l .ensures .0) (l .ensures .1) (l .ensures .3)
-    (s .pre .1 .0 .0 .walkable) (s .pre .1 .0 .1) (c .before .before .before .before .before .before .if3 .taken) (c .before .before .render .ensures)
+    through-alias (mapOf (a .map .now)) (a .n) (x .result) (x .ensures) (a .at .first .0) (a .at .offset .0) (a .at .end .0) (l .result) (l .ensures) (h .0) (h .1)
+    (s .pre .1 .0 .tree .walkable) (s .pre .1 .0 .below) (c .before .before .before .before .before .before .if3 .taken) (c .before .before .render .ensures)
 
 render-same-length-2 : (t : ℕ) → render-lts.Need-same-length-2 (render-calls t) (render-at t) render.Post
-render-same-length-2 t c = behind-size (c .before .before .before .before .before .before .before .before .before .before .before .before .before .before .before .before .before .before .before .before .before .pre .1 .1 .0) (c .before .before .render-children .ensures)
+render-same-length-2 t c = behind-size (c .before .before .before .before .before .before .before .before .before .before .before .before .before .before .before .before .before .before .before .before .before .before .before .pre .1 .1 .kept) (c .before .before .render-children .ensures)
 
 render-returns-4 : (t : ℕ) → render-lts.Need-returns-4 (render-calls t) (render-at t) render.Post
 render-returns-4 t c =
-    let s = c .before .before .before .before .before .before .before .before .before .before .before .before .before .before .before .before .before .before .before .before .before in
+    let s = c .before .before .before .before .before .before .before .before .before .before .before .before .before .before .before .before .before .before .before .before .before .before .before in
     let a = s .args in
-    let m = mapOf (a .map .now) in
-    let x = c .before .before .before .before .before .before .before .before .before .before .before .before .before .before .before .before .before .before .region-at in
-    let h = some-there (x .result .size) (a .first .0) (a .offset .0) (a .end .0) (c .before .before .before .before .before .before .before .before .before .before .before .before .before .before .if1 .left) in
+    let e = c .before .before .before .before .before .before .before .before .before .before .before .before .before .before in
+    let h = some t e in
+    let x = c .before .before .before .before .before .before .before .before .before .before .before .before .before .before .before .before .before .before .before .before .region-at in
     let l = c .before .before .before .before .before .before .before .least in
-    through-children m (a .n) (x .result) (x .ensures) (a .first .0) (a .offset .0) (a .end .0) (l .result) (h .0) (h .1) (l .ensures .0) (l .ensures .1) (l .ensures .3)
+    through-children (mapOf (a .map .now)) (a .n) (x .result) (x .ensures) (a .at .first .0) (a .at .offset .0) (a .at .end .0) (l .result) (l .ensures) (h .0) (h .1)
     (c .before .before .before .before .if3 .left) (c .before .before .render-children .ensures)
 
 render-children-next-child-requires : (t : ℕ) → render-children-lts.Need-next-child-requires (children-calls t) (render-children-at t) render-children.Post
-render-children-next-child-requires t c κs =
-    let s = c .before .before in
-    (s .pre .1 .0 .0, s .pre .1 .0 .1, s .pre .1 .0 .2)
+render-children-next-child-requires t c κs = c .before .before .pre .1 .0
 
 render-children-region-at-requires : (t : ℕ) → render-children-lts.Need-region-at-requires (children-calls t) (render-children-at t) render-children.Post
 render-children-region-at-requires t c κs =
-    let s = c .before .before .before .before in
-    (s .pre .1 .0 .0 .words, omega (arith, s .pre .1 .0 .1, s .pre .1 .0 .0 .walkable .count))
+    let s = c .before .before .before .before .pre .1 .0 .0 in
+    (s .tree .words, omega (arith, s .below, s .tree .walkable .count))
 
 render-children-fill-requires : (t : ℕ) → render-children-lts.Need-fill-requires (children-calls t) (render-children-at t) render-children.Post
 render-children-fill-requires t c κs =
     let s = c .before .before .before .before .before .before .before .before in
-    (s .pre .1 .1 .0, (omega (arith, s .pre .1 .0 .1, s .pre .1 .0 .0 .walkable .count), s .pre .1 .1 .1 .0, s .pre .1 .1 .1 .2, omega (arith, s .pre .1 .1 .1 .3)))
+    (s .pre .1 .1 .0, omega (arith, s .pre .1 .0 .0 .below, s .pre .1 .0 .0 .tree .walkable .count))
 
 render-children-same-length : (t : ℕ) → render-children-lts.Need-same-length (children-calls t) (render-children-at t) render-children.Post
-render-children-same-length t c = behind-size (c .before .before .before .before .before .before .before .before .before .before .before .pre .1 .1 .0) (c .before .before .fill .ensures)
+render-children-same-length t c = behind-size (c .before .before .before .before .before .before .before .before .before .before .before .pre .1 .1 .0 .kept) (c .before .before .fill .ensures)
 
 render-children-returns : (t : ℕ) → render-children-lts.Need-returns (children-calls t) (render-children-at t) render-children.Post
 render-children-returns t c =
-    let s = c .before .before .before .before .before .before .before .before .before .before .before in
-    let a = s .args in
-    let m = mapOf (a .map .now) in
+    let a = c .before .before .before .before .before .before .before .before .before .before .before .args in
     let x = c .before .before .before .before .before .before .region-at in
-    the-node m (a .n) (a .below) _ (a .first .0) (a .offset .0) (a .end .0) (c .before .before .before .before .before .before .before .before .next-child .ensures) (x .result) (x .ensures) (c .before .before .before .before .before .before .before .if1 .taken) (c .before .before .before .before .if2 .taken) (c .before .before .fill .ensures)
+    the-node (mapOf (a .map .now)) (a .n) (a .below) _ (a .at .first .0) (a .at .offset .0) (a .at .end .0) (c .before .before .before .before .before .before .before .before .next-child .ensures) (x .result) (x .ensures) (c .before .before .before .before .before .before .before .if1 .taken) (c .before .before .before .before .if2 .taken) (c .before .before .fill .ensures)
 
 render-children-returns-2 : (t : ℕ) → render-children-lts.Need-returns-2 (children-calls t) (render-children-at t) render-children.Post
 render-children-returns-2 t c =
     let s = c .before .before .before .before .before .before .before in
     let a = s .args in
-    let m = mapOf (a .map .now) in
     let x = c .before .before .region-at in
-    no-node m (a .n) (a .below) _ (a .first .0) (a .offset .0) (a .end .0) (c .before .before .before .before .next-child .ensures) _ (x .result) (x .ensures) (s .pre .1 .1 .0) (c .before .before .before .if1 .taken) (c .if2 .left)
+    no-node (mapOf (a .map .now)) (a .n) (a .below) _ (a .at .first .0) (a .at .offset .0) (a .at .end .0) (c .before .before .before .before .next-child .ensures) _ (x .result) (x .ensures) (s .pre .1 .1 .0 .kept) (c .before .before .before .if1 .taken) (c .if2 .left)
 
 render-children-sub-left : (t : ℕ) → render-children-lts.Need-sub-left (children-calls t) (render-children-at t) render-children.Post
 render-children-sub-left t c = omega (arith, c .if1 .left)
 
 render-children-region-at-requires-2 : (t : ℕ) → render-children-lts.Need-region-at-requires-2 (children-calls t) (render-children-at t) render-children.Post
-render-children-region-at-requires-2 t c κs =
-    let s = c .before .before .before .before in
-    (s .pre .1 .0 .0 .words, omega arith)
+render-children-region-at-requires-2 t c κs = (c .before .before .before .before .pre .1 .0 .0 .tree .words, omega arith)
+
+-- the next child, once there is one
+abbrev Child : ℕ → Type 0
+Child t = render-children-lts.Else1 (children-calls t) (render-children-at t) render-children.Post
+
+child : (t : ℕ) (c : Child t) → ranked (mapOf (c .before .before .before .before .args .map .now)) (c .before .before .before .before .args .n) (c .before .next-child .result - 1) ≡ true
+child t c =
+    let a = c .before .before .before .before .args in
+    is-child (mapOf (a .map .now)) (a .n) (a .below) _ (c .before .next-child .ensures) (c .if1 .left)
+
+child-of : (t : ℕ) (c : Child t) → (c .before .next-child .result - 1) % 32 < c .before .before .before .before .args .n
+child-of t c =
+    let a = c .before .before .before .before .args in
+    child-below (mapOf (a .map .now)) (a .n) _ (child t c)
 
 render-children-render-requires : (t : ℕ) → render-children-lts.Need-render-requires (children-calls t) (render-children-at t) render-children.Post
 render-children-render-requires t c κs =
-    let s = c .before .before .before .before .before .before .before .before .before in
-    let a = s .args in
-    let m = mapOf (a .map .now) in
-    let k = child-below m (a .n) _ (is-child m (a .n) (a .below) _ (c .before .before .before .before .before .before .next-child .ensures) (c .before .before .before .before .before .if1 .left)) in
-    (omega (arith, k, s .pre .0), ((s .pre .1 .0 .0, omega (arith, k, s .pre .1 .0 .1)), (s .pre .1 .1 .0, (s .pre .1 .1 .1 .0, s .pre .1 .1 .1 .2, omega (arith, s .pre .1 .1 .1 .3)))))
+    let s = c .before .before .before .before .before .before .before .before .before .before .before in
+    let low = child-of t (c .before .before .before .before .before .before .before) in
+    let w = s .pre .1 .1 .0 in
+    (omega (arith, low, s .pre .0), (record { tree = s .pre .1 .0 .0 .tree; below = omega (arith, low, s .pre .1 .0 .0 .below) }, record { kept = w .kept; from = w .from; to = w .to; offset = omega (arith, w .offset) }))
 
 render-children-sub-ahead : (t : ℕ) → render-children-lts.Need-sub-ahead (children-calls t) (render-children-at t) render-children.Post
 render-children-sub-ahead t c = omega (arith, c .before .if3 .left)
 
 render-children-sub-if4 : (t : ℕ) → render-children-lts.Need-sub-if4 (children-calls t) (render-children-at t) render-children.Post
-render-children-sub-if4 t c = c .before .before .before .before .before .before .before .before .before .before .pre .1 .1 .1 .1
+render-children-sub-if4 t c = c .before .before .before .before .before .before .before .before .before .before .before .pre .1 .1 .1
 
 render-children-add-t30 : (t : ℕ) → render-children-lts.Need-add-t30 (children-calls t) (render-children-at t) render-children.Post
 render-children-add-t30 t c =
     let s = c .before .before .before .before .before .before .before .before .before .before .before .before .before in
-    omega (arith, c .before .before .if4 .taken, s .pre .1 .1 .1 .1, s .pre .1 .1 .1 .2)
+    omega (arith, c .before .if4 .taken, s .pre .1 .1 .1, s .pre .1 .1 .0 .to)
 
 render-children-render-requires-2 : (t : ℕ) → render-children-lts.Need-render-requires-2 (children-calls t) (render-children-at t) render-children.Post
 render-children-render-requires-2 t c κs =
-    let s = c .before .before .before .before .before .before .before .before .before .before .before .before .before in
-    let a = s .args in
-    let m = mapOf (a .map .now) in
-    let k = child-below m (a .n) _ (is-child m (a .n) (a .below) _ (c .before .before .before .before .before .before .before .before .before .before .next-child .ensures) (c .before .before .before .before .before .before .before .before .before .if1 .left)) in
-    (omega (arith, k, s .pre .0), ((s .pre .1 .0 .0, omega (arith, k, s .pre .1 .0 .1)), (s .pre .1 .1 .0, (omega (arith, s .pre .1 .1 .1 .0), s .pre .1 .1 .1 .2, omega arith))))
+    let s = c .before .before .before .before .before .before .before .before .before .before .before .before .before .before in
+    let low = child-of t (c .before .before .before .before .before .before .before .before .before .before) in
+    let w = s .pre .1 .1 .0 in
+    (omega (arith, low, s .pre .0), (record { tree = s .pre .1 .0 .0 .tree; below = omega (arith, low, s .pre .1 .0 .0 .below) }, record { kept = w .kept; from = omega (arith, w .from); to = w .to; offset = omega arith }))
 
 -- after the next child, whichever way: what it answers stands behind the table
 put : (t : ℕ) (c : render-children-lts.Joined3 (children-calls t) (render-children-at t) render-children.Post)
-    → let a = c .before .before .before .before .before .before .before .args in
+    → let a = c .before .before .before .before .before .before .before .before .args in
     Behind (a .table .now)
-    (window (answer (mapOf (a .map .now)) (walkBelow (mapOf (a .map .now)) (a .n)) (a .n) (c .before .before .before .before .next-child .result - 1)) (a .first .0) (a .offset .0) (a .end .0))
+    (window (answer (mapOf (a .map .now)) (walkBelow (mapOf (a .map .now)) (a .n)) (a .n) (c .before .before .before .before .before .next-child .result - 1)) (a .at .first .0) (a .at .offset .0) (a .at .end .0))
     (c .if3 .table)
 put t c =
-    let s = c .before .before .before .before .before .before .before in
+    let s = c .before .before .before .before .before .before .before .before in
     let a = s .args in
     let m = mapOf (a .map .now) in
-    let x = c .before .before .region-at2 in
-    let k = is-child m (a .n) (a .below) _ (c .before .before .before .before .next-child .ensures) (c .before .before .before .if1 .left) in
+    let x = c .before .before .before .region-at2 in
+    let k = child t (c .before .before .before .before) in
     ⊎-elim
-    (λ w. behind-at (w .6) (child-begun m (a .n) _ (x .result) (x .ensures) (a .first .0) (a .offset .0) (a .end .0) k (w .0 .taken) (w .3 .ensures)))
+    (λ w. behind-at (w .7) (child-begun m (a .n) _ (x .result) (x .ensures) (a .at .first .0) (a .at .offset .0) (a .at .end .0) k (w .0 .taken) (w .4 .ensures)))
     (⊎-elim
-    (λ w. behind-at (w .10) (child-ahead m (a .n) _ (x .result) (x .ensures) (a .first .0) (a .offset .0) (a .end .0) k (w .0 .left) (w .7 .ensures)))
-    (λ w. behind-at (w .5) (child-beyond m (a .n) _ (x .result) (x .ensures) (a .first .0) (a .offset .0) (a .end .0) k _ (s .pre .1 .1 .0) (w .0 .left) (w .4 .left))))
+    (λ w. behind-at (w .10) (child-ahead m (a .n) _ (x .result) (x .ensures) (a .at .first .0) (a .at .offset .0) (a .at .end .0) k (w .0 .left) (w .7 .ensures)))
+    (λ w. behind-at (w .5) (child-beyond m (a .n) _ (x .result) (x .ensures) (a .at .first .0) (a .at .offset .0) (a .at .end .0) k _ (s .pre .1 .1 .0 .kept) (w .0 .left) (w .4 .left))))
     (c .if3 .came)
 
 render-children-render-children-requires : (t : ℕ) → render-children-lts.Need-render-children-requires (children-calls t) (render-children-at t) render-children.Post
 render-children-render-children-requires t c κs =
-    let s = c .before .before .before .before .before .before .before .before in
-    let next = c .before .before .before .before .before .next-child .ensures in
+    let s = c .before .before .before .before .before .before .before .before .before in
+    let next = c .before .before .before .before .before .before .next-child .ensures in
     let b = put t (c .before) in
-    (omega (arith, s .pre .0, next .within, c .before .before .before .before .if1 .left), ((s .pre .1 .0 .0, s .pre .1 .0 .1, omega (arith, next .within, s .pre .1 .0 .2)), (b .kept, (omega (arith, b .start, s .pre .1 .1 .1 .0), s .pre .1 .1 .1 .1, s .pre .1 .1 .1 .2, s .pre .1 .1 .1 .3))))
+    let w = s .pre .1 .1 in
+    (omega (arith, s .pre .0, next .within, c .before .before .before .before .before .if1 .left), ((s .pre .1 .0 .0, omega (arith, next .within, s .pre .1 .0 .1)), (record { kept = b .kept; from = omega (arith, b .start, w .0 .from); to = w .0 .to; offset = w .0 .offset }, w .1, w .2)))
 
 render-children-same-length-2 : (t : ℕ) → render-children-lts.Need-same-length-2 (children-calls t) (render-children-at t) render-children.Post
-render-children-same-length-2 t c = behind-size (put t (c .before .before .before .before) .kept) (c .before .before .render-children .ensures) ∙ behind-size (c .before .before .before .before .before .before .before .before .before .before .before .pre .1 .1 .0) (put t (c .before .before .before .before))
+render-children-same-length-2 t c = behind-size (put t (c .before .before .before .before) .kept) (c .before .before .render-children .ensures) ∙ behind-size (c .before .before .before .before .before .before .before .before .before .before .before .before .pre .1 .1 .0 .kept) (put t (c .before .before .before .before))
 
 render-children-returns-3 : (t : ℕ) → render-children-lts.Need-returns-3 (children-calls t) (render-children-at t) render-children.Post
 render-children-returns-3 t c =
-    let s = c .before .before .before .before .before .before .before .before .before .before .before in
-    let a = s .args in
-    let m = mapOf (a .map .now) in
-    child-then m (a .n) (a .below) _ (a .first .0) (a .offset .0) (a .end .0) (c .before .before .before .before .before .before .before .before .next-child .ensures) (c .before .before .before .before .before .before .before .if1 .left) (put t (c .before .before .before .before)) (c .before .before .render-children .ensures)
+    let a = c .before .before .before .before .before .before .before .before .before .before .before .before .args in
+    child-then (mapOf (a .map .now)) (a .n) (a .below) _ (a .at .first .0) (a .at .offset .0) (a .at .end .0) (c .before .before .before .before .before .before .before .before .before .next-child .ensures) (c .before .before .before .before .before .before .before .before .if1 .left) (put t (c .before .before .before .before)) (c .before .before .render-children .ensures)
 
 pub +render+render-children-spec : {M : Type 1} → statement M
 +render+render-children-spec = close μ-render μ-render-children (λ t. render-lts.spec (render-calls t)
@@ -292,8 +297,8 @@ pub +render+render-children-spec : {M : Type 1} → statement M
     (render-sub-least t)
     (render-sub-least-2 t)
     (render-least-requires t)
-    (render-add-stop t)
-    (render-add-t20 t)
+    (render-add-t18 t)
+    (render-add-t19 t)
     (render-render-requires t)
     (render-render-children-requires t)
     (render-same-length t)

@@ -36,7 +36,11 @@ root-offset-requires : tie.Need-root-offset-requires
 root-offset-requires c κs = tt
 
 walk-requires : tie.Need-walk-requires
-walk-requires c κs = (accepted-tree _ _ (ok (c .before .before)), omega (arith, accepted-some _ _ (ok (c .before .before)), c .before .region-count .ensures))
+walk-requires c κs =
+    record {
+      tree = accepted-tree _ _ (ok (c .before .before));
+      below = omega (arith, accepted-some _ _ (ok (c .before .before)), c .before .region-count .ensures);
+    }
 
 returns : tie.Need-returns
 unfolding walkRoot

@@ -52,7 +52,7 @@ abbrev children-calls : ℕ → walk-children-lts.Claims
 children-calls t = (next-child-reads.Asked, next-child-reads.Learnt, region-at-reads.Asked, region-at-reads.Learnt, walk-children-below t, walk-children.Post, walk-below t, walk.Post)
 
 walk-region-at-requires : (t : ℕ) → walk-lts.Need-region-at-requires (walk-calls t) (walk-at t) walk.Post
-walk-region-at-requires t c κs = (c .before .pre .1 .0 .words, omega (arith, c .before .pre .1 .1, c .before .pre .1 .0 .walkable .count))
+walk-region-at-requires t c κs = (c .before .pre .1 .tree .words, omega (arith, c .before .pre .1 .below, c .before .pre .1 .tree .walkable .count))
 
 walk-returns : (t : ℕ) → walk-lts.Need-returns (walk-calls t) (walk-at t) walk.Post
 walk-returns t c =
@@ -64,7 +64,7 @@ walk-add-t7 : (t : ℕ) → walk-lts.Need-add-t7 (walk-calls t) (walk-at t) walk
 walk-add-t7 t c =
     let s = c .before .before .before .before .before .before .before in
     let e = c .before .before .before .before .before .region-at .ensures in
-    omega (arith, ap (λ (r : Region). r .size) e, ap (λ (r : Region). r .«alias_offset») e, c .before .before .before .if1 .left, s .pre .1 .0 .walkable .sizes (s .args .n) (s .pre .1 .1), s .pre .1 .0 .walkable .aliases (s .args .n) (s .pre .1 .1))
+    omega (arith, ap (λ (r : Region). r .size) e, ap (λ (r : Region). r .«alias_offset») e, c .before .before .before .if1 .left, s .pre .1 .tree .walkable .sizes (s .args .n) (s .pre .1 .below), s .pre .1 .tree .walkable .aliases (s .args .n) (s .pre .1 .below))
 
 walk-walk-requires : (t : ℕ) → walk-lts.Need-walk-requires (walk-calls t) (walk-at t) walk.Post
 walk-walk-requires t c κs =
@@ -73,8 +73,8 @@ walk-walk-requires t c κs =
     let e = c .before .before .before .before .before .region-at .ensures in
     let kind = ap (λ (r : Region). r .kind) e in
     let target = ap (λ (r : Region). r .target) e in
-    let h = s .pre .1 .0 .walkable .targets (a .n) (s .pre .1 .1) (sym kind ∙ c .before .if2 .taken) in
-    (omega (arith, target, h, s .pre .0), (s .pre .1 .0, omega (arith, target, h, s .pre .1 .1)))
+    let h = s .pre .1 .tree .walkable .targets (a .n) (s .pre .1 .below) (sym kind ∙ c .before .if2 .taken) in
+    (omega (arith, target, h, s .pre .0), record { tree = s .pre .1 .tree; below = omega (arith, target, h, s .pre .1 .below) })
 
 walk-returns-2 : (t : ℕ) → walk-lts.Need-returns-2 (walk-calls t) (walk-at t) walk.Post
 walk-returns-2 t c =
@@ -84,12 +84,12 @@ walk-returns-2 t c =
     let e = c .before .before .before .before .before .before .region-at .ensures in
     let kind = ap (λ (r : Region). r .kind) e in
     let size = ap (λ (r : Region). r .size) e in
-    c .walk .ensures ∙ ap (λ (r : Region). walkOf m (r .target) (a .at .0 + r .«alias_offset»)) e ∙ sym (walk-alias m (s .pre .1 .0 .walkable) (a .n) (s .pre .1 .1) (sym kind ∙ c .before .before .if2 .taken) (a .at .0) (omega (arith, size, c .before .before .before .before .if1 .left)))
+    c .walk .ensures ∙ ap (λ (r : Region). walkOf m (r .target) (a .at .0 + r .«alias_offset»)) e ∙ sym (walk-alias m (s .pre .1 .tree .walkable) (a .n) (s .pre .1 .below) (sym kind ∙ c .before .before .if2 .taken) (a .at .0) (omega (arith, size, c .before .before .before .before .if1 .left)))
 
 walk-walk-children-requires : (t : ℕ) → walk-lts.Need-walk-children-requires (walk-calls t) (walk-at t) walk.Post
 walk-walk-children-requires t c κs =
     let s = c .before .before .before .before .before .before in
-    (omega (arith, s .pre .0), (s .pre .1 .0, s .pre .1 .1, omega arith))
+    (omega (arith, s .pre .0), (s .pre .1, omega arith))
 
 walk-returns-3 : (t : ℕ) → walk-lts.Need-returns-3 (walk-calls t) (walk-at t) walk.Post
 walk-returns-3 t c =
@@ -106,7 +106,7 @@ walk-children-next-child-requires t c κs = c .before .pre .1
 walk-children-region-at-requires : (t : ℕ) → walk-children-lts.Need-region-at-requires (children-calls t) (walk-children-at t) walk-children.Post
 walk-children-region-at-requires t c κs =
     let s = c .before .before .before in
-    (s .pre .1 .0 .words, omega (arith, s .pre .1 .1, s .pre .1 .0 .walkable .count))
+    (s .pre .1 .0 .tree .words, omega (arith, s .pre .1 .0 .below, s .pre .1 .0 .tree .walkable .count))
 
 walk-children-returns : (t : ℕ) → walk-children-lts.Need-returns (children-calls t) (walk-children-at t) walk-children.Post
 walk-children-returns t c =
@@ -126,12 +126,12 @@ walk-children-sub-left : (t : ℕ) → walk-children-lts.Need-sub-left (children
 walk-children-sub-left t c = omega (arith, c .if1 .left)
 
 walk-children-region-at-requires-2 : (t : ℕ) → walk-children-lts.Need-region-at-requires-2 (children-calls t) (walk-children-at t) walk-children.Post
-walk-children-region-at-requires-2 t c κs = (c .before .before .before .pre .1 .0 .words, omega arith)
+walk-children-region-at-requires-2 t c κs = (c .before .before .before .pre .1 .0 .tree .words, omega arith)
 
 walk-children-walk-children-requires : (t : ℕ) → walk-children-lts.Need-walk-children-requires (children-calls t) (walk-children-at t) walk-children.Post
 walk-children-walk-children-requires t c κs =
     let s = c .before .before .before .before .before .before in
-    (omega (arith, s .pre .0, c .before .before .before .before .next-child .ensures .within, c .before .before .before .if1 .left), (s .pre .1 .0, s .pre .1 .1, omega (arith, s .pre .1 .2, c .before .before .before .before .next-child .ensures .within, c .before .before .before .if1 .left)))
+    (omega (arith, s .pre .0, c .before .before .before .before .next-child .ensures .within, c .before .before .before .if1 .left), (s .pre .1 .0, omega (arith, s .pre .1 .1, c .before .before .before .before .next-child .ensures .within, c .before .before .before .if1 .left)))
 
 walk-children-returns-3 : (t : ℕ) → walk-children-lts.Need-returns-3 (children-calls t) (walk-children-at t) walk-children.Post
 walk-children-returns-3 t c =
@@ -149,7 +149,7 @@ walk-children-walk-requires t c κs =
     let a = s .args in
     let m = mapOf (a .map .now) in
     let k = child-below m (a .n) _ (is-child m (a .n) (a .below) _ (c .before .before .before .before .before .next-child .ensures) (c .before .before .before .before .if1 .left)) in
-    (omega (arith, k, s .pre .0), (s .pre .1 .0, omega (arith, k, s .pre .1 .1)))
+    (omega (arith, k, s .pre .0), record { tree = s .pre .1 .0 .tree; below = omega (arith, k, s .pre .1 .0 .below) })
 
 walk-children-enum-told : (t : ℕ) → walk-children-lts.Need-enum-told (children-calls t) (walk-children-at t) walk-children.Post
 walk-children-enum-told t c = search needs
@@ -160,7 +160,7 @@ walk-children-enum-told-2 t c = search needs
 walk-children-walk-children-requires-2 : (t : ℕ) → walk-children-lts.Need-walk-children-requires-2 (children-calls t) (walk-children-at t) walk-children.Post
 walk-children-walk-children-requires-2 t c κs =
     let s = c .before .before .before .before .before .before .before .before .before .before in
-    (omega (arith, s .pre .0, c .before .before .before .before .before .before .before .before .next-child .ensures .within, c .before .before .before .before .before .before .before .if1 .left), (s .pre .1 .0, s .pre .1 .1, omega (arith, s .pre .1 .2, c .before .before .before .before .before .before .before .before .next-child .ensures .within, c .before .before .before .before .before .before .before .if1 .left)))
+    (omega (arith, s .pre .0, c .before .before .before .before .before .before .before .before .next-child .ensures .within, c .before .before .before .before .before .before .before .if1 .left), (s .pre .1 .0, omega (arith, s .pre .1 .1, c .before .before .before .before .before .before .before .before .next-child .ensures .within, c .before .before .before .before .before .before .before .if1 .left)))
 
 walk-children-returns-4 : (t : ℕ) → walk-children-lts.Need-returns-4 (children-calls t) (walk-children-at t) walk-children.Post
 walk-children-returns-4 t c =
