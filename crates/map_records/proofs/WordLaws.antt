@@ -1,9 +1,9 @@
 -- Laws of a map and of a view as words: what stands for their counts, regions and ranges, words of another number, one region or range stored, and the words back. Assumes nothing.
 use mathlib.Core.Path.{_≡_, refl, sym, ap, _∙_}
 use mathlib.Core.Logic.{⊎-elim}
-use mathlib.Core.List.{List, [], _∷_, _++_, append-nil}
+use mathlib.Core.List.{List, [], _∷_, append-nil}
 use Prim.Native.Nat.{ℕ, zero, suc, _+_, _*_, _≤_, _<_}
-use native.Mathlib.Nat.{add-zero, add-suc}
+use native.Mathlib.Nat.{add-zero}
 use native.Mathlib.Omega.{arith}
 use lib.ListN.{length, set, take, drop, getD, replicate, length-replicate, length-set, drop-of-length-le}
 use lib.Seq.{sets, drop-cons, length-sets, getD-set-same, getD-set-other}

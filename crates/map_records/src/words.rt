@@ -1,7 +1,7 @@
 // Maps and views where they lie: 289 words, the count and nine for each of 32 regions; 1,537 words, the count and
 // six for each of 256 ranges. Nothing is copied but the one record that is read or written.
 ghost use mathlib.Core.Path.{_≡_};
-ghost use Prim.Native.Nat.{_+_, _*_, _≤_, _<_};
+ghost use Prim.Native.Nat.{_+_, _*_, _<_};
 ghost use lib.ListN.{length, set};
 ghost use lib.Seq.{sets};
 ghost use Rattle.map_records.specs.Map.{region};

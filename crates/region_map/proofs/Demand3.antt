@@ -1,28 +1,25 @@
 -- Demand 3, first half, over an accepted map; 12 exactly at its cause; and that a made view keeps rule 27's facts. Assumes nothing.
 use mathlib.Core.Path.{_≡_, refl, sym, ap, subst, _∙_}
-use mathlib.Core.Bool.{Bool, true, false, cond, _||_}
-use mathlib.Core.List.{List, [], _∷_, _++_}
-use Prim.Native.Nat.{ℕ, zero, suc, _+_, _-_, _^_, _≤_, _<_}
+use mathlib.Core.Bool.{Bool, true, false, _||_}
+use mathlib.Core.List.{List, [], _∷_}
+use Prim.Native.Nat.{ℕ, zero, suc, _-_, _≤_, _<_}
 use native.Mathlib.Decide.{decLt}
 use native.Mathlib.Omega.{arith}
-use lib.Dec.{eqb, ltb}
-use lib.ListN.{length, take, getD, replicate, List·getD-append}
+use lib.Dec.{eqb}
+use lib.ListN.{length, getD, replicate, List·getD-append}
 use lib.Seq.{take-append-seam}
 use borrow.Author.Tests.{lt-ltb, le-ltb, eq-eqb, ne-eqb, eqb-false}
 use Rattle.map_records.specs.Map.{ram, mmio, managed, region}
 use Rattle.region_map.specs.Reply.{accepted, plain}
-use Rattle.region_map.specs.Fault.{backed}
-use Rattle.region_map.specs.Check.{judged, Accepted}
-use Rattle.region_map.specs.Sound.{Sound}
-use Rattle.region_map.specs.Walk.{walk, walkRoot}
-use Rattle.region_map.specs.FlatList.{flat, inside, answerOf, lookup, Entry, Follows, Chain, Longest}
+use Rattle.region_map.specs.Check.{Accepted}
+use Rattle.region_map.specs.Walk.{walkRoot}
+use Rattle.region_map.specs.FlatList.{flat, inside, answerOf, lookup, Chain, Longest}
 use Rattle.region_map.specs.Flatten.{backingOf, rootSize, flatList, viewHolding, refusal, listed, flattened, FirstHalf}
 use Rattle.map_records.specs.View.{noRange, entries}
 use Rattle.region_map.specs.ViewRules.{LawfulRange, Lawful}
 use Rattle.map_records.specs.View.{rangeOf, lastOffset}
 use Rattle.map_records.specs.declared.map.RegionMap.{RegionMap}
 use Rattle.map_records.specs.declared.map.RegionOffset.{RegionOffset}
-use Rattle.region_map.specs.declared.resolve.Resolved.{Resolved}
 use Rattle.region_map.specs.declared.resolve.Resolved.the-variants.{Nothing, At}
 use Rattle.map_records.specs.declared.view.FlatRange.{FlatRange}
 use Rattle.region_map.specs.declared.flat.Backing.{Backing}
@@ -31,7 +28,7 @@ use Rattle.region_map.proofs.WalkLaws.{past}
 use Rattle.region_map.proofs.LeafLaws.{root-leaf}
 use Rattle.region_map.specs.Visibility.{LeafOf}
 use Rattle.region_map.proofs.FlatLaws.{flat-gives, flat-beyond, flat-longest}
-use Rattle.region_map.proofs.UniqueLaws.{unique, sound, entry-at, here, later, low}
+use Rattle.region_map.proofs.UniqueLaws.{unique, sound, entry-at, here, later}
 
 -- past the root the tree leads nowhere
 root-past : (m : RegionMap) (a : ℕ) → rootSize m ≤ a → walkRoot m a ≡ Nothing

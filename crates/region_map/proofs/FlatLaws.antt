@@ -1,10 +1,9 @@
 -- The list of the first n addresses gives what the walk answers, is a list of longest runs, and grows by one entry for a stretch that answers as one run.
-use mathlib.Core.Path.{_≡_, refl, sym, ap, _∙_}
-use mathlib.Core.Bool.{Bool, true, false, cond, _&&_}
-use mathlib.Core.List.{List, [], _∷_, _++_}
+use mathlib.Core.Path.{_≡_, refl, _∙_}
+use mathlib.Core.Bool.{cond}
+use mathlib.Core.List.{List, [], _∷_}
 use Prim.Native.Nat.{ℕ, zero, suc, _+_, _-_, _≤_, _<_}
 use native.Mathlib.Nat.{add-zero, add-suc, not-suc-le-zero}
-use native.Mathlib.Numerals.{add-one}
 use native.Mathlib.Decide.{ℕ-discrete, decLt}
 use native.Mathlib.Omega.{arith}
 use lib.ListN.{length}
@@ -12,11 +11,11 @@ use Rattle.region_map.specs.declared.resolve.Resolved.{Resolved}
 use Rattle.region_map.specs.declared.resolve.Resolved.the-variants.{Nothing, At}
 use Rattle.region_map.specs.declared.flat.Backing.{Backing}
 use Rattle.map_records.specs.declared.view.FlatRange.{FlatRange}
-use Rattle.region_map.specs.FlatList.{rangeAt, joins, grown, after, push, extend, flat, inside, answerOf, lookup}
+use Rattle.region_map.specs.FlatList.{rangeAt, joins, after, push, extend, flat, inside, answerOf, lookup}
 use Rattle.region_map.specs.Contracts.{shift}
-use Rattle.region_map.specs.FlatList.{Entry, Follows, Chain, Longest}
+use Rattle.region_map.specs.FlatList.{Entry, Longest}
 use Rattle.region_map.proofs.RangeTests.{Is, on, off, is, inside-on, inside-before, inside-beyond}
-use Rattle.region_map.proofs.PushLaws.{Under, after-on, after-off, push-push, lookup-push, longest-push, under-more, under-push}
+use Rattle.region_map.proofs.PushLaws.{Under, push-push, lookup-push, longest-push, under-more, under-push}
 
 module _ (backing : ℕ → Backing) where
   sound-at : (n m k o : ℕ) → n ≤ m → Entry backing (rangeAt backing n m k o)

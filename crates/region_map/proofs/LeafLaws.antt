@@ -1,5 +1,5 @@
 -- What the walk answers is a leaf: a region below or at the one asked, that is no container and no alias, at an offset below its size. Assumes nothing.
-use mathlib.Core.Path.{_≡_, refl, sym, subst}
+use mathlib.Core.Path.{_≡_, refl, subst}
 use mathlib.Core.Bool.{Bool, true, false, cond}
 use Prim.Native.Nat.{ℕ, zero, suc, _+_, _-_, _%_, _≤_, _<_}
 use native.Mathlib.Omega.{arith}
@@ -7,7 +7,6 @@ use borrow.Author.Tests.{eqb-true, eqb-false, leb-false}
 use lib.Dec.{eqb, leb}
 use Rattle.map_records.specs.Map.{container, alias, region}
 use Rattle.region_map.specs.Check.{Accepted}
-use Rattle.region_map.specs.Sound.{Sound}
 use Rattle.region_map.specs.Visibility.{LeafOf}
 use Rattle.region_map.specs.Walk.{ranked, orElse, holds, asked, own, answer, tried, visit, walkBelow, walk, walkRoot}
 use Rattle.map_records.specs.declared.map.RegionMap.{RegionMap}

@@ -1,18 +1,16 @@
 -- Laws of a map as words: words of another number are refused, and an accepted map's can be gone through. Assumes nothing.
-use mathlib.Core.Path.{_≡_, refl, sym, ap, _∙_}
+use mathlib.Core.Path.{_≡_, ap, _∙_}
 use mathlib.Core.Logic.{⊎-elim}
 use mathlib.Core.List.{List}
-use Prim.Native.Nat.{ℕ, _-_, _<_}
+use Prim.Native.Nat.{ℕ, _<_}
 use native.Mathlib.Omega.{arith}
 use lib.ListN.{length}
 use Rattle.map_records.specs.Words.{mapOf}
-use Rattle.map_records.specs.declared.map.RegionMap.{RegionMap}
 use Rattle.map_records.proofs.Order.{eq-or-not}
 use Rattle.map_records.proofs.WordLaws.{map-other}
 use Rattle.region_map.specs.Reply.{Reply, accepted, nodes, place, plain}
 use Rattle.region_map.specs.Check.{judged, Accepted}
 use Rattle.region_map.specs.Contracts.{Tree}
-use Rattle.region_map.specs.Walk.{walk, walkRoot}
 use Rattle.region_map.proofs.Accepted.{accepted-sound, accepted-walkable}
 
 pub judged-other : (w : List ℕ) → (length w ≡ 289 → ⊥) → (memory : ℕ) → nodes 3 0 0 ≡ judged (mapOf w) memory

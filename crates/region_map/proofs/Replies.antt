@@ -1,6 +1,6 @@
 -- The law of a call that goes on only where nothing is refused. Assumes nothing.
 use mathlib.Core.Path.{_≡_, refl, ap, _∙_}
-use mathlib.Core.Bool.{Bool, true, false}
+use mathlib.Core.Bool.{false}
 use Rattle.region_map.specs.Reply.{Reply, accepted, nodes, place, plain, passes, ifAccepted}
 use Rattle.region_map.proofs.Bools.{never}
 

@@ -1,11 +1,11 @@
 -- Laws of the public walk. Assumes nothing.
 use mathlib.Core.Path.{_≡_}
-use mathlib.Core.Bool.{Bool, true, false}
+use mathlib.Core.Bool.{false}
 use Prim.Native.Nat.{ℕ}
 use Rattle.region_map.specs.Reply.{Reply, passes}
 use Rattle.region_map.specs.Check.{judged, Accepted}
 use Rattle.region_map.specs.Walk.{walkRoot}
-use Rattle.region_map.specs.Resolve.{Led, refused, leads, resolved}
+use Rattle.region_map.specs.Resolve.{refused, leads, resolved}
 use Rattle.map_records.specs.declared.map.RegionMap.{RegionMap}
 use Rattle.region_map.specs.declared.resolve.Resolved.{Resolved}
 use Rattle.region_map.proofs.Replies.{refused-first}

@@ -1,9 +1,8 @@
 -- Two lists of longest runs that give the same answers are equal.
 use mathlib.Core.Path.{_≡_, refl, sym, ap, _∙_}
-use mathlib.Core.Bool.{Bool, true, false, cond, _&&_}
-use mathlib.Core.List.{List, [], _∷_, _++_}
+use mathlib.Core.List.{List, [], _∷_}
 use Prim.Native.Nat.{ℕ, zero, suc, _+_, _-_, _≤_, _<_}
-use native.Mathlib.Decide.{ℕ-discrete, decLt, decLe}
+use native.Mathlib.Decide.{decLt, decLe}
 use native.Mathlib.Omega.{arith}
 use Rattle.region_map.specs.declared.resolve.Resolved.{Resolved}
 use Rattle.region_map.specs.declared.resolve.Resolved.the-variants.{Nothing, At}
@@ -11,7 +10,7 @@ use Rattle.region_map.specs.declared.flat.Backing.{Backing}
 use lib.ListN.{length, getD}
 use Rattle.map_records.specs.View.{noRange}
 use Rattle.map_records.specs.declared.view.FlatRange.{FlatRange}
-use Rattle.region_map.specs.FlatList.{inside, answerOf, lookup, Entry, Follows, Chain, Longest}
+use Rattle.region_map.specs.FlatList.{answerOf, lookup, Entry, Chain, Longest}
 use Rattle.region_map.proofs.Bools.{never}
 use Rattle.region_map.proofs.RangeTests.{on-joins, inside-on, inside-before, inside-beyond}
 

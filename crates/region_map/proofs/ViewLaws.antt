@@ -1,25 +1,23 @@
 -- The first entries of an array as the list: the last one grown in its place, and one written behind them.
 use mathlib.Core.Path.{_≡_, refl, sym, ap, _∙_}
-use mathlib.Core.Bool.{Bool, true, false, cond, _&&_}
-use mathlib.Core.List.{List, [], _∷_, _++_, append-assoc}
+use mathlib.Core.Bool.{Bool, true, false}
+use mathlib.Core.List.{List, [], _∷_, _++_}
 use Prim.Native.Nat.{ℕ, zero, suc, _+_, _-_, _≤_, _<_}
-use native.Mathlib.Nat.{not-suc-le-zero, add-suc}
+use native.Mathlib.Nat.{not-suc-le-zero}
 use native.Mathlib.Numerals.{add-one}
-use native.Mathlib.Decide.{decLt}
 use native.Mathlib.Omega.{arith}
-use lib.Dec.{ltb}
 use lib.ListN.{length, take, drop, replicate, set, getD, length-set, length-take, length-append, take-append-drop}
 use lib.Seq.{drop-set-lt, drop-drop, take-suc, take-suc-set, length-take-le}
 use borrow.Author.Tests.{lt-ltb, le-ltb, ltb-true}
 use Rattle.map_records.specs.declared.map.GuestAddress.{GuestAddress}
 use Rattle.map_records.specs.declared.map.RegionOffset.{RegionOffset}
 use Rattle.region_map.specs.declared.resolve.Resolved.{Resolved}
-use Rattle.region_map.specs.declared.resolve.Resolved.the-variants.{Nothing, At}
+use Rattle.region_map.specs.declared.resolve.Resolved.the-variants.{At}
 use Rattle.region_map.specs.declared.flat.Backing.{Backing}
 use Rattle.map_records.specs.declared.view.FlatRange.{FlatRange}
 use Rattle.map_records.specs.declared.view.FlatView.{FlatView}
 use Rattle.region_map.specs.Contracts.{Pushed, shift, Blank, Grew}
-use Rattle.region_map.specs.FlatList.{joins, grown, after, push, extend, flat, lookup}
+use Rattle.region_map.specs.FlatList.{joins, grown, after, push, extend, flat}
 use Rattle.region_map.specs.Flatten.{viewHolding}
 use Rattle.map_records.specs.View.{entries, noRange}
 use Rattle.region_map.proofs.PushLaws.{after-on, after-off}

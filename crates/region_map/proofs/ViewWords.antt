@@ -1,7 +1,7 @@
 -- The view as words while it is made: one range grown or put behind the others, and the words of a view that was made. Assumes nothing.
 use mathlib.Core.Path.{_≡_, refl, sym, ap, subst, _∙_}
 use mathlib.Core.Bool.{Bool, true, false}
-use mathlib.Core.List.{List, [], _∷_}
+use mathlib.Core.List.{List, []}
 use Prim.Native.Nat.{ℕ, _+_, _-_, _*_, _≤_, _<_}
 use native.Mathlib.Omega.{arith}
 use lib.ListN.{length, set, getD, replicate, length-set}
@@ -16,8 +16,8 @@ use Rattle.map_records.specs.declared.map.RegionMap.{RegionMap}
 use Rattle.region_map.specs.Reply.{Reply, accepted, plain, passes}
 use Rattle.region_map.specs.Check.{judged, Accepted}
 use Rattle.region_map.specs.FlatList.{joins, grown, push, flat}
-use Rattle.region_map.specs.Flatten.{viewHolding, Outcome, refusal, listed, flatList, flattened, Made, laidInto, flattenedInto}
-use Rattle.region_map.specs.Contracts.{Viewed, Filled, Pushed, Grew, Grows, Blank}
+use Rattle.region_map.specs.Flatten.{viewHolding, Outcome, refusal, listed, flatList, flattened, laidInto, flattenedInto}
+use Rattle.region_map.specs.Contracts.{Viewed, Filled, Grew, Grows, Blank}
 use Rattle.region_map.specs.declared.resolve.Resolved.{Resolved}
 use Rattle.region_map.specs.declared.flat.Backing.{Backing}
 use Rattle.region_map.proofs.FlatLaws.{flat-longest}

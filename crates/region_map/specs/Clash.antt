@@ -1,5 +1,5 @@
 -- The rules over two regions: the second half of 8, and 9 to 11. Assumes nothing: these are definitions.
-use mathlib.Core.Bool.{Bool, true, false, cond, _&&_, _||_, not}
+use mathlib.Core.Bool.{Bool, cond, _&&_, not}
 use Prim.Native.Nat.{ℕ, _+_, max}
 use lib.Dec.{eqb, ltb}
 use Rattle.map_records.specs.Map.{mmio, managed, region}

@@ -1,5 +1,5 @@
 -- The rules over one region: 4, 6, 7 and the first half of 8. Assumes nothing: these are definitions.
-use mathlib.Core.Bool.{Bool, true, false, _&&_, _||_, not}
+use mathlib.Core.Bool.{Bool, _&&_, _||_, not}
 use Prim.Native.Nat.{ℕ, _+_, _-_, _^_}
 use lib.Dec.{eqb, leb, ltb}
 use Rattle.map_records.specs.Map.{container, ram, alias, managed, has, valueOf, region}

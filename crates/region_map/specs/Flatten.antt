@@ -1,13 +1,13 @@
 -- The flat view of a given map, and demand 3's first half. Assumes nothing: these are definitions.
 use mathlib.Core.Path.{_≡_}
-use mathlib.Core.Bool.{Bool, true, false, cond}
-use mathlib.Core.List.{List, [], _∷_, _++_}
-use Prim.Native.Nat.{ℕ, _+_, _-_, _≤_, _<_}
+use mathlib.Core.Bool.{Bool, cond}
+use mathlib.Core.List.{List, [], _++_}
+use Prim.Native.Nat.{ℕ, _-_}
 use lib.Dec.{eqb, ltb}
-use lib.ListN.{length, take, drop, replicate}
+use lib.ListN.{length, replicate}
 use Rattle.map_records.specs.Map.{mmio, region}
-use Rattle.map_records.specs.View.{noRange, entries}
-use Rattle.map_records.specs.Words.{viewOf, viewWords}
+use Rattle.map_records.specs.View.{noRange}
+use Rattle.map_records.specs.Words.{viewWords}
 use Rattle.region_map.specs.Reply.{Reply, accepted, plain, ifAccepted, passes}
 use Rattle.region_map.specs.Check.{reply, judged}
 use Rattle.region_map.specs.Walk.{walkRoot}

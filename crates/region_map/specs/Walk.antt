@@ -1,11 +1,10 @@
 -- The walk through a region map ('The tree'; source 001, Visibility): what a region answers at an address inside it, on every map. Assumes nothing: these are definitions.
-use mathlib.Core.Bool.{Bool, true, false, _&&_, cond}
+use mathlib.Core.Bool.{Bool, _&&_, cond}
 use Prim.Native.Nat.{ℕ, zero, suc, _+_, _-_, _*_, _%_}
 use lib.Dec.{eqb, leb, ltb}
 use Rattle.map_records.specs.Map.{container, alias, region}
 use Rattle.region_map.specs.Clash.{priorityOf}
 use Rattle.map_records.specs.declared.map.RegionMap.{RegionMap}
-use Rattle.map_records.specs.declared.map.RegionOffset.{RegionOffset}
 use Rattle.region_map.specs.declared.resolve.Resolved.{Resolved}
 use Rattle.region_map.specs.declared.resolve.Resolved.the-variants.{Nothing, At}
 

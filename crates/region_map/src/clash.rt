@@ -1,6 +1,6 @@
 // The rules of document 01 over two regions.
 ghost use mathlib.Core.Path.{_≡_};
-ghost use Prim.Native.Nat.{_≤_, _<_};
+ghost use Prim.Native.Nat.{_<_};
 ghost use Rattle.map_records.specs.Words.{mapOf};
 ghost use lib.ListN.{length};
 ghost use Rattle.region_map.specs.Clash.{share as shareOf, priorityOf, memoryClash, managedClash, portClash, siblings as siblingsOf, siblingClash};

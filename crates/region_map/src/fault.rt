@@ -1,7 +1,6 @@
 // The rules of document 01 over one region.
 ghost use mathlib.Core.Path.{_≡_};
-ghost use Prim.Native.Nat.{_≤_, _<_, _+_};
-ghost use lib.Dec.{ltb};
+ghost use Prim.Native.Nat.{_<_, _+_};
 ghost use Rattle.map_records.specs.Words.{mapOf};
 ghost use Rattle.region_map.specs.Contracts.{Counted, fault};
 ghost use Rattle.map_records.specs.Map.{region};

@@ -1,5 +1,4 @@
 // The searches over regions and over pairs of them.
-ghost use mathlib.Core.Path.{_≡_};
 ghost use Rattle.map_records.specs.Words.{mapOf};
 ghost use Rattle.region_map.specs.Contracts.{Counted, fault, clash, LowestIs, FirstIs};
 use crate::clash::PairRule;

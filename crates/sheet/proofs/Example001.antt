@@ -1,6 +1,6 @@
 -- Document 01's sheet of the map of source 001 reads as its five regions D, E, B, C, A. Assumes nothing.
 use mathlib.Core.Path.{_≡_, refl}
-use mathlib.Core.List.{List, [], _∷_, _++_}
+use mathlib.Core.List.{List, [], _∷_}
 use Prim.Native.Nat.{ℕ}
 use lib.ListN.{replicate}
 use Rattle.map_records.specs.Map.{container, mmio, noRegion}

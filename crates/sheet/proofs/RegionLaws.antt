@@ -1,19 +1,18 @@
 -- Laws of the fields of one region. Assumes nothing.
-use mathlib.Core.Path.{_≡_, refl, sym, ap, _∙_}
-use mathlib.Core.Bool.{Bool, true, false}
-use mathlib.Core.List.{List, [], _∷_}
+use mathlib.Core.Path.{_≡_, sym, _∙_}
+use mathlib.Core.Bool.{true, false}
+use mathlib.Core.List.{List}
 use Prim.Native.Nat.{ℕ, _+_, _≤_, _<_}
-use native.Mathlib.Omega.{arith}
 use native.Mathlib.Numerals.{add-one}
 use lib.Dec.{ltb}
-use lib.ListN.{getD, drop, length, drop-of-length-le}
+use lib.ListN.{getD, drop, drop-of-length-le}
 use lib.Seq.{drop-cons}
 use Rattle.map_records.specs.Map.{managed, has, withValue}
 use Rattle.region_map.specs.Reply.{Reply, place}
 use Rattle.map_records.specs.declared.map.Region.{Region}
 use Rattle.map_records.specs.declared.map.Field.{Field}
 use Rattle.map_records.specs.declared.map.Field.the-variants.{Parent}
-use Rattle.sheet.specs.Answer.{Read, got, refused, next}
+use Rattle.sheet.specs.Answer.{got, refused, next}
 use Rattle.sheet.specs.Number.{number}
 use Rattle.sheet.specs.Region.{sheetFields, fieldAt, fieldsFrom, ofKind, regionAt}
 

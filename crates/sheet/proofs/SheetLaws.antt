@@ -2,7 +2,7 @@
 use mathlib.Core.Path.{_≡_, refl, sym, ap, _∙_}
 use mathlib.Core.Bool.{Bool, true, false, cond, _||_}
 use mathlib.Core.List.{List}
-use Prim.Native.Nat.{ℕ, zero, suc, _+_, _-_, _*_, _≤_, _<_}
+use Prim.Native.Nat.{ℕ, suc, _+_, _-_, _*_, _≤_, _<_}
 use native.Mathlib.Omega.{arith}
 use native.Mathlib.Numerals.{add-one}
 use lib.Dec.{eqb, ltb}
@@ -19,12 +19,13 @@ use Rattle.region_map.specs.Reply.{Reply, accepted, nodes, place, plain, passes
 use Rattle.map_records.specs.declared.map.Region.{Region}
 use Rattle.map_records.specs.declared.map.RegionMap.{RegionMap}
 use Rattle.sheet.proofs.RefusalLaws.{number-not, regions-not}
-use Rattle.sheet.specs.Answer.{Read, got, refused, next, sheetReply}
+use Rattle.sheet.specs.Answer.{got, refused, next, sheetReply}
 use Rattle.sheet.specs.declared.answer.SheetAnswer.{SheetAnswer}
 use Rattle.sheet.specs.declared.answer.SheetAnswer.the-variants.{Count, Tail, Checked}
 use Rattle.sheet.specs.Number.{number}
 use Rattle.sheet.specs.Region.{regionAt}
-use Rattle.sheet.specs.Sheet.{blankMap, withRegion, regionsFrom, mapAt, Outcome, refusal, checked, readSheet, Made, laidInto, readInto, Reads}
+use Rattle.sheet.specs.Sheet.{blankMap, withRegion, regionsFrom, mapAt, Outcome, refusal, checked, readSheet, Made, laidInto, readInto}
+use Rattle.sheet.specs.Contracts.{Reads}
 
 -- the regions from region n on, of `count`
 module _ (s : List ℕ) (count n : ℕ) (m : RegionMap) (at : ℕ) where

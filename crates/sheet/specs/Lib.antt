@@ -2,3 +2,4 @@ pub mod Answer
 pub mod Number
 pub mod Region
 pub mod Sheet
+pub mod Contracts

@@ -8,10 +8,8 @@ use Rattle.region_map.specs.Reply.{place}
 use Rattle.map_records.specs.declared.map.Region.{Region}
 use Rattle.map_records.specs.declared.map.Field.{Field}
 use Rattle.map_records.specs.declared.map.Field.the-variants.{Parent, Offset, Size, Priority, MemoryStart, Port, Target, AliasOffset}
-use Rattle.sheet.specs.Answer.{Read, got, refused, next, sheetReply}
+use Rattle.sheet.specs.Answer.{Read, got, refused, next}
 use Rattle.sheet.specs.Number.{number}
-use Rattle.sheet.specs.declared.fields.RegionRead.{RegionRead}
-use Rattle.sheet.specs.declared.fields.RegionRead.the-variants.{Whole, Refused}
 
 -- the fields after the kind, in the order of the sheet; a region has those that its kind has
 abbrev pub sheetFields : List Field
@@ -33,8 +31,3 @@ ofKind k = record { kind = k; parent = 0; offset = 0; size = 0; priority = 0; «
 -- a region at a place: 4 at the kind's first byte, at once
 unfoldable pub regionAt : List ℕ → ℕ → Read Region
 regionAt s at = next (number s at) (λ k then. cond (kindFault k) (refused (place 4 at)) (fieldsFrom s sheetFields (ofKind k) then))
-
--- what the reader of one region answers
-abbrev pub regionOf : RegionRead → Read Region
-regionOf (Whole r c) = got r (c .at)
-regionOf (Refused a) = refused (sheetReply a)

@@ -1,22 +1,18 @@
 -- The whole sheet: 'First the node count, then for each node ..', left to right; then the check of the map. Assumes nothing: these are definitions.
-use mathlib.Core.Path.{_≡_}
-use mathlib.Core.Bool.{Bool, true, cond}
+use mathlib.Core.Bool.{Bool, cond}
 use mathlib.Core.List.{List}
 use Prim.Native.Nat.{ℕ, zero, suc}
 use lib.Dec.{eqb, ltb}
 use lib.ListN.{length, replicate, set}
 use Rattle.map_records.specs.Map.{noRegion, emptyMap}
-use Rattle.map_records.specs.Words.{mapOf, mapWords}
+use Rattle.map_records.specs.Words.{mapWords}
 use Rattle.region_map.specs.Reply.{Reply, accepted, place, plain, passes, ifAccepted}
 use Rattle.region_map.specs.Check.{countFault, judged}
 use Rattle.map_records.specs.declared.map.Region.{Region}
 use Rattle.map_records.specs.declared.map.RegionMap.{RegionMap}
-use Rattle.sheet.specs.Answer.{Read, got, refused, next, sheetReply}
+use Rattle.sheet.specs.Answer.{Read, got, refused, next}
 use Rattle.sheet.specs.Number.{number}
 use Rattle.sheet.specs.Region.{regionAt}
-use Rattle.sheet.specs.declared.regions.Progress.{Progress}
-use Rattle.sheet.specs.declared.regions.Progress.the-variants.{Done, Refused}
-use Rattle.sheet.specs.declared.answer.SheetAnswer.{SheetAnswer}
 
 -- a map of n regions of which nothing is known yet
 abbrev pub blankMap : ℕ → RegionMap
@@ -68,15 +64,3 @@ isMap w = eqb (length w) 289
 
 unfoldable pub readInto : List ℕ → ℕ → List ℕ → Made
 readInto s memory map = cond (isMap map) (laidInto (readSheet s memory) map) (record { reply = plain 27; words = map })
-
--- What the functions that read a sheet promise each other.
-
-abbrev pub progressOf : Progress → RegionMap → Read RegionMap
-progressOf (Done c) m = got m (c .at)
-progressOf (Refused a) m = refused (sheetReply a)
-
--- the answer is o's, and where it is accepted the words are its map's
-pub record Reads (o : Outcome) (a : SheetAnswer) (w : List ℕ) : Type 0 where
-  pub size : length w ≡ 289
-  pub reply : sheetReply a ≡ o .reply
-  pub map : passes (sheetReply a) ≡ true → mapOf w ≡ o .map

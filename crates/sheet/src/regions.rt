@@ -3,7 +3,8 @@ ghost use mathlib.Core.Path.{_≡_};
 ghost use Prim.Native.Nat.{_≤_};
 ghost use lib.ListN.{length};
 ghost use Rattle.map_records.specs.Words.{mapOf};
-ghost use Rattle.sheet.specs.Sheet.{regionsFrom, blankMap, progressOf};
+ghost use Rattle.sheet.specs.Sheet.{regionsFrom, blankMap};
+ghost use Rattle.sheet.specs.Contracts.{progressOf};
 use crate::answer::Cursor;
 use crate::answer::SheetAnswer;
 use crate::fields::RegionRead;
@@ -20,7 +21,8 @@ pub enum Progress {
 pub fn read_regions(sheet: &[u8], from: Cursor, count: usize, map: &mut [u64]) -> Progress
     requires { ⌜ count ≤ 32 ⌝ }
     requires { ⌜ (length (now map) ≡ 289) × (mapOf (now map) ≡ blankMap count) ⌝ }
-    ensures { λ r. ⌜ (progressOf r (mapOf (now (map .exit))) ≡ regionsFrom (now (sheet .entry)) count 0 (blankMap count) (from .at)) × (length (now (map .exit)) ≡ 289) ⌝ }
+    ensures { λ r. ⌜ (progressOf r (mapOf (now (map .exit))) ≡ regionsFrom (now (sheet .entry)) count 0 (blankMap count) (from .at))
+        × (length (now (map .exit)) ≡ 289) ⌝ }
 {
     let mut at = from;
     let mut n: usize = 0;

@@ -17,9 +17,6 @@ use Rattle.region_map.proofs.MapWords.{judged-other}
 use borrow.Author.Needs.{needs}
 use Rattle.region_map.proofs.check.check_map.Statement.{statement}
 use Rattle.region_map.proofs.check.check_map.Tie as tie
-use Rattle.map_records.proofs.words.region_count.Reads as region-count-reads
-use Rattle.region_map.proofs.search.first_pair.Reads as first-pair-reads
-use Rattle.region_map.proofs.search.lowest_fault.Reads as lowest-fault-reads
 
 -- the map that the words stand for, and the memory's length, once its count was judged
 abbrev theMap : tie.Else3 → RegionMap

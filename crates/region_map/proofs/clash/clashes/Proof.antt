@@ -2,11 +2,6 @@
 use borrow.Author.Needs.{needs}
 use Rattle.region_map.proofs.clash.clashes.Statement.{statement}
 use Rattle.region_map.proofs.clash.clashes.Tie as tie
-use Rattle.map_records.proofs.words.region_at.Reads as region-at-reads
-use Rattle.region_map.proofs.clash.managed_clash.Reads as managed-clash-reads
-use Rattle.region_map.proofs.clash.memory_clash.Reads as memory-clash-reads
-use Rattle.region_map.proofs.clash.port_clash.Reads as port-clash-reads
-use Rattle.region_map.proofs.clash.sibling_clash.Reads as sibling-clash-reads
 
 region-at-requires : tie.Need-region-at-requires
 region-at-requires c κs = search needs

@@ -1,6 +1,5 @@
 -- `region_map::clash::priority_of` meets its contract. Assumes nothing.
 use borrow.Author.Tests.{eq-eqb, ne-eqb}
-use borrow.Author.Needs.{needs}
 use Rattle.region_map.proofs.clash.priority_of.Statement.{statement}
 use Rattle.region_map.proofs.clash.priority_of.Tie as tie
 

@@ -3,10 +3,6 @@ use Rattle.region_map.specs.Clash.{siblingClash}
 use borrow.Author.Needs.{needs}
 use Rattle.region_map.proofs.clash.sibling_clash.Statement.{statement}
 use Rattle.region_map.proofs.clash.sibling_clash.Tie as tie
-use Rattle.map_records.proofs.words.region_at.Reads as region-at-reads
-use Rattle.region_map.proofs.clash.priority_of.Reads as priority-of-reads
-use Rattle.region_map.proofs.clash.share.Reads as share-reads
-use Rattle.region_map.proofs.clash.siblings.Reads as siblings-reads
 
 region-at-requires : tie.Need-region-at-requires
 region-at-requires c κs = search needs

@@ -2,10 +2,6 @@
 use borrow.Author.Needs.{needs}
 use Rattle.region_map.proofs.fault.at_fault.Statement.{statement}
 use Rattle.region_map.proofs.fault.at_fault.Tie as tie
-use Rattle.map_records.proofs.words.region_at.Reads as region-at-reads
-use Rattle.region_map.proofs.fault.field_fault.Reads as field-fault-reads
-use Rattle.region_map.proofs.fault.link_fault.Reads as link-fault-reads
-use Rattle.region_map.proofs.fault.memory_fault.Reads as memory-fault-reads
 
 region-at-requires : tie.Need-region-at-requires
 region-at-requires c κs = search needs

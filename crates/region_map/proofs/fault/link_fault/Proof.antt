@@ -3,11 +3,6 @@ use Rattle.region_map.specs.Fault.{linkFault}
 use borrow.Author.Needs.{needs}
 use Rattle.region_map.proofs.fault.link_fault.Statement.{statement}
 use Rattle.region_map.proofs.fault.link_fault.Tie as tie
-use Rattle.map_records.proofs.words.region_at.Reads as region-at-reads
-use Rattle.map_records.proofs.words.region_count.Reads as region-count-reads
-use Rattle.region_map.proofs.fault.parent_fault.Reads as parent-fault-reads
-use Rattle.region_map.proofs.fault.root_fault.Reads as root-fault-reads
-use Rattle.region_map.proofs.fault.target_fault.Reads as target-fault-reads
 
 region-at-requires : tie.Need-region-at-requires
 region-at-requires c κs = search needs

@@ -8,8 +8,6 @@ use borrow.Author.Tests.{eq-eqb, ne-eqb, le-leb, lt-leb}
 use borrow.Author.Needs.{needs}
 use Rattle.region_map.proofs.fault.parent_fault.Statement.{statement}
 use Rattle.region_map.proofs.fault.parent_fault.Tie as tie
-use Rattle.map_records.proofs.words.region_at.Reads as region-at-reads
-use Rattle.map_records.proofs.words.region_count.Reads as region-count-reads
 
 region-at-requires : tie.Need-region-at-requires
 region-at-requires c κs = search needs

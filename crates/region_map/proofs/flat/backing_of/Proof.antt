@@ -4,7 +4,6 @@ use borrow.Author.Tests.{eq-eqb, ne-eqb}
 use borrow.Author.Needs.{needs}
 use Rattle.region_map.proofs.flat.backing_of.Statement.{statement}
 use Rattle.region_map.proofs.flat.backing_of.Tie as tie
-use Rattle.map_records.proofs.words.region_at.Reads as region-at-reads
 
 region-at-requires : tie.Need-region-at-requires
 region-at-requires c κs = search needs

@@ -1,10 +1,9 @@
 -- `region_map::flat::emit` meets its contract. Assumes nothing.
-use mathlib.Core.Path.{_≡_, sym, subst, ap, _∙_}
-use mathlib.Core.Bool.{Bool, true, false}
+use mathlib.Core.Path.{_≡_, sym, subst, _∙_}
+use mathlib.Core.Bool.{Bool}
 use mathlib.Core.List.{List}
 use Prim.Native.Nat.{ℕ, _+_, _-_, _≤_, _<_}
 use native.Mathlib.Omega.{arith}
-use lib.ListN.{length}
 use Rattle.map_records.specs.View.{entries}
 use Rattle.map_records.specs.Words.{mapOf, viewOf}
 use Rattle.map_records.specs.declared.map.RegionMap.{RegionMap}
@@ -19,10 +18,6 @@ use Rattle.region_map.proofs.ViewLaws.{step-leaf, still-full, kept}
 use Rattle.region_map.proofs.ViewWords.{filled-words}
 use Rattle.region_map.proofs.flat.emit.Statement.{statement}
 use Rattle.region_map.proofs.flat.emit.Tie as tie
-use Rattle.region_map.proofs.flat.backing_of.Reads as backing-of-reads
-use Rattle.region_map.proofs.flat.push_range.Reads as push-range-reads
-use Rattle.map_records.proofs.numbers.least.Reads as least-reads
-use Rattle.region_map.proofs.pieces.piece_at.Reads as piece-at-reads
 
 abbrev Inv-loop : tie.InvT-loop
 Inv-loop map view₀ table count i₀ view i = Viewed view × Emitted (backingOf (mapOf map)) (walkRoot (mapOf map)) table i (entries (viewOf view)) × (Blank (viewOf view₀) → Blank (viewOf view))

@@ -1,12 +1,12 @@
 -- `region_map::flat::push_range` meets its contract. Assumes nothing.
 use mathlib.Core.Path.{_≡_, sym, subst, ap, _∙_}
-use mathlib.Core.Bool.{true, false}
+use mathlib.Core.Bool.{false}
 use mathlib.Core.List.{List}
 use mathlib.Core.Logic.{⊎-elim}
 use Prim.Native.Nat.{ℕ, _+_, _-_, _*_, _≤_, _<_}
 use native.Mathlib.Omega.{arith}
-use lib.ListN.{length, set, length-set}
-use lib.Seq.{sets, length-sets}
+use lib.ListN.{length, set}
+use lib.Seq.{length-sets}
 use Rattle.map_records.specs.View.{rangeOf, entries}
 use Rattle.map_records.specs.Words.{viewOf, rangeWords}
 use Rattle.map_records.specs.declared.view.FlatRange.{FlatRange}
@@ -16,11 +16,6 @@ use Rattle.region_map.proofs.ViewWords.{grew-words, added-words, refuse
 use borrow.Author.Needs.{needs}
 use Rattle.region_map.proofs.flat.push_range.Statement.{statement}
 use Rattle.region_map.proofs.flat.push_range.Tie as tie
-use Rattle.map_records.proofs.words.count_of.Reads as count-of-reads
-use Rattle.map_records.proofs.words.put_count.Reads as put-count-reads
-use Rattle.map_records.proofs.words.put_range.Reads as put-range-reads
-use Rattle.map_records.proofs.words.range_at.Reads as range-at-reads
-use Rattle.region_map.proofs.flat.goes_on.Reads as goes-on-reads
 
 -- where the arms meet: there is no last range, or the new one does not join it
 behind : (c : tie.Joined1)

@@ -1,18 +1,14 @@
 -- `region_map::pieces::shift` meets its contract. Assumes nothing.
 use mathlib.Core.Path.{_≡_}
-use Rattle.region_map.specs.Pieces.{pieceWords}
-use mathlib.Core.Path.{sym, subst, ap, _∙_}
+use mathlib.Core.Path.{sym, subst, _∙_}
 use mathlib.Core.List.{List}
 use Prim.Native.Nat.{ℕ, _-_}
-use lib.ListN.{length}
 use Prim.Native.Nat.{_+_, _*_, _≤_}
 use native.Mathlib.Omega.{arith}
 use Rattle.region_map.proofs.PieceLaws.{Moving, move-start, move-piece, move-end}
 use borrow.Author.Needs.{needs}
 use Rattle.region_map.proofs.pieces.shift.Statement.{statement}
 use Rattle.region_map.proofs.pieces.shift.Tie as tie
-use Rattle.region_map.proofs.pieces.piece_at.Reads as piece-at-reads
-use Rattle.region_map.proofs.pieces.put_piece.Reads as put-piece-reads
 
 abbrev Inv-loop : tie.InvT-loop
 Inv-loop table₀ i n k₀ table k = (i ≤ k) × (k ≤ n) × Moving table₀ (3 + 4 * k) (3 + 4 * n) table

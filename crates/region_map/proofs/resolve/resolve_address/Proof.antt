@@ -11,11 +11,6 @@ use Rattle.region_map.proofs.ResolveLaws.{led, not-led}
 use borrow.Author.Needs.{needs}
 use Rattle.region_map.proofs.resolve.resolve_address.Statement.{statement}
 use Rattle.region_map.proofs.resolve.resolve_address.Tie as tie
-use Rattle.map_records.proofs.words.region_count.Reads as region-count-reads
-use Rattle.region_map.proofs.check.accepts.Reads as accepts-reads
-use Rattle.region_map.proofs.check.check_map.Reads as check-map-reads
-use Rattle.region_map.proofs.resolve.root_offset.Reads as root-offset-reads
-use Rattle.region_map.proofs.walk.walk.Reads as walk-reads
 
 ok : (c : tie.Then1) → Accepted (mapOf (c .before .before .before .before .args .map .now)) (c .before .before .before .before .args .memory-length)
 ok c = is-accepted _ _ _ (c .before .before .check-map .ensures) (sym (c .before .accepts .ensures) ∙ c .if1 .taken)

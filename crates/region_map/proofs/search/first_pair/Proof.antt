@@ -4,8 +4,8 @@ use Rattle.region_map.proofs.First.{pair-none, pair-at}
 use Rattle.region_map.specs.Contracts.{FirstIs, clash}
 use borrow.Author.Count.{below-none, below-more}
 use native.Mathlib.Omega.{arith}
-use Prim.Native.Nat.{ℕ, _+_, _-_, _≤_, _<_}
-use mathlib.Core.Bool.{true, false}
+use Prim.Native.Nat.{ℕ, _-_, _≤_, _<_}
+use mathlib.Core.Bool.{false}
 use mathlib.Core.Path.{_≡_, sym, _∙_, subst⁻¹}
 use Rattle.map_records.specs.Words.{mapOf}
 use borrow.Author.Needs.{needs}

@@ -3,9 +3,9 @@ use Rattle.region_map.proofs.First.{lowest-none, lowest-at}
 use Rattle.region_map.specs.Contracts.{fault}
 use borrow.Author.Count.{below-none, below-more}
 use native.Mathlib.Omega.{arith}
-use Prim.Native.Nat.{ℕ, _+_, _-_, _≤_, _<_}
-use mathlib.Core.Bool.{true, false}
-use mathlib.Core.Path.{_≡_, sym, _∙_, subst⁻¹}
+use Prim.Native.Nat.{ℕ, _-_, _≤_, _<_}
+use mathlib.Core.Bool.{false}
+use mathlib.Core.Path.{_≡_, sym, _∙_}
 use Rattle.map_records.specs.Words.{mapOf}
 use borrow.Author.Needs.{needs}
 use Rattle.region_map.proofs.search.lowest_fault.Statement.{statement}

@@ -1,12 +1,11 @@
 -- `region_map::view::flatten` meets its contract. Assumes nothing.
-use mathlib.Core.Path.{_≡_, refl, sym, ap, subst, _∙_}
-use mathlib.Core.Bool.{Bool, true, false}
-use mathlib.Core.List.{List}
+use mathlib.Core.Path.{sym, ap, subst, _∙_}
+use mathlib.Core.Bool.{Bool}
 use Prim.Native.Nat.{ℕ}
 use lib.ListN.{length, replicate, length-replicate}
 use Rattle.map_records.specs.Words.{mapOf}
 use Rattle.region_map.specs.Check.{reply, Accepted}
-use Rattle.region_map.specs.Flatten.{Made, flatList, flattenedInto}
+use Rattle.region_map.specs.Flatten.{Made, flatList}
 use Rattle.region_map.specs.Contracts.{Grows}
 use Rattle.region_map.proofs.Accepted.{is-accepted, passed-reply}
 use Rattle.region_map.proofs.MapWords.{accepted-tree, accepted-some}

@@ -1,7 +1,7 @@
 -- `sheet::fields::read_field` meets its contract. Assumes nothing.
 use Rattle.sheet.proofs.RegionLaws.{field-read, field-refused, field-lacked}
 use Rattle.sheet.specs.Number.{numberOf}
-use mathlib.Core.Path.{_≡_, refl, sym, ap, _∙_}
+use mathlib.Core.Path.{sym, ap, _∙_}
 use borrow.Author.Needs.{needs}
 use Rattle.sheet.proofs.fields.read_field.Statement.{statement}
 use Rattle.sheet.proofs.fields.read_field.Tie as tie

@@ -3,7 +3,7 @@ use Rattle.sheet.proofs.RegionLaws.{fields-more, fields-refused, fields
 use Rattle.sheet.specs.Region.{sheetFields, fieldsFrom}
 use lib.ListN.{drop}
 use Prim.Native.Nat.{_≤_, _-_}
-use Rattle.sheet.specs.Region.{regionOf}
+use Rattle.sheet.specs.Contracts.{regionOf}
 use mathlib.Core.Path.{_≡_, refl, sym, ap, _∙_}
 use borrow.Author.Needs.{needs}
 use Rattle.sheet.proofs.fields.read_fields.Statement.{statement}

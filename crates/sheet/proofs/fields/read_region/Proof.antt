@@ -2,7 +2,7 @@
 use Rattle.sheet.proofs.RegionLaws.{region-refused, region-kind, region-read}
 use borrow.Author.Tests.{lt-ltb, le-ltb}
 use Rattle.sheet.specs.Number.{numberOf}
-use mathlib.Core.Path.{_≡_, refl, sym, ap, _∙_}
+use mathlib.Core.Path.{sym, ap, _∙_}
 use borrow.Author.Needs.{needs}
 use Rattle.sheet.proofs.fields.read_region.Statement.{statement}
 use Rattle.sheet.proofs.fields.read_region.Tie as tie

@@ -1,11 +1,11 @@
 -- `sheet::reading::read_map` meets its contract. Assumes nothing.
-use mathlib.Core.Path.{_≡_, sym, ap, _∙_}
+use mathlib.Core.Path.{sym, ap, _∙_}
 use Prim.Native.Nat.{ℕ}
 use lib.ListN.{length, length-set}
 use borrow.Author.Tests.{lt-ltb, le-ltb}
 use Rattle.map_records.specs.Words.{mapOf}
 use Rattle.sheet.specs.Number.{numberOf}
-use Rattle.sheet.specs.Sheet.{progressOf}
+use Rattle.sheet.specs.Contracts.{progressOf}
 use Rattle.sheet.specs.declared.regions.Progress.{Progress}
 use Rattle.sheet.proofs.SheetLaws.{count-bound, blank-words, read-number-not, read-count-not, read-regions-not, read-tail, read-end}
 use borrow.Author.Needs.{needs}

@@ -1,5 +1,5 @@
 -- `sheet::reading::read_sheet` meets its contract. Assumes nothing.
-use mathlib.Core.Path.{_≡_, sym, ap, _∙_}
+use mathlib.Core.Path.{sym, ap, _∙_}
 use Prim.Native.Nat.{ℕ}
 use lib.ListN.{length, length-replicate}
 use Rattle.map_records.proofs.WordLaws.{empty-map-words}

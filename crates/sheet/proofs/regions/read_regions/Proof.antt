@@ -5,7 +5,7 @@ use native.Mathlib.Nat.{sub-zero}
 use native.Mathlib.Omega.{arith}
 use lib.ListN.{length}
 use Rattle.map_records.specs.Words.{mapOf}
-use Rattle.sheet.specs.Region.{regionOf}
+use Rattle.sheet.specs.Contracts.{regionOf}
 use Rattle.sheet.specs.Sheet.{regionsFrom, blankMap}
 use Rattle.sheet.proofs.SheetLaws.{regions-laid, regions-refused, regions-done}
 use borrow.Author.Needs.{needs}
