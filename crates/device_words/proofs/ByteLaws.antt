@@ -1,77 +1,78 @@
--- Laws of numbers as little-endian bytes: their length, their bound, that reading gives back what was written, and the turns of the loops over them.
+-- Laws of numbers as little-endian bytes: their length, readings that agree, that reading gives back what was written, and the turns of the loops over them.
 -- Assumes nothing.
 use mathlib.Core.Path.{_≡_, refl, sym, ap, _∙_}
 use mathlib.Core.List.{List, [], _∷_}
 use Prim.Native.Nat.{ℕ, zero, suc, _+_, _-_, _*_, _/_, _%_, _^_, _≤_, _<_}
 use native.Mathlib.Omega.{arith}
-use native.Mathlib.Nat.{pow-suc, pow-le-pow-right, mod-eq-of-lt}
+use native.Mathlib.Nat.{add-zero, pow-suc, pow-le-pow-right, mod-eq-of-lt}
 use lib.ListN.{length, getD, set, replicate}
 use lib.Seq.{sets}
 use Rattle.map_records.proofs.StoreLaws.{over}
-use Rattle.device_words.specs.Bytes.{le, number, responseBytes, configurationBytes}
+use Rattle.device_words.specs.Bytes.{le, numberBy, number, responseBytes, configurationBytes}
 
 pub le-length : (k n : ℕ) → length (le k n) ≡ k
 unfolding le
 le-length zero n = refl
 le-length (suc k) n = ap suc (le-length k (n / 256))
 
-pub number-bound : (s : List ℕ) (at k : ℕ) → ((i : ℕ) → getD s i 0 < 256) → number s at k < 256 ^ k
-unfolding number
-number-bound s at zero h = omega arith
-number-bound s at (suc k) h = omega (arith, pow-suc 256 k, h at, number-bound s (suc at) k h)
-
-number-tail : (x : ℕ) (s : List ℕ) (at k : ℕ) → number (x ∷ s) (suc at) k ≡ number s at k
-unfolding number
-number-tail x s at zero = refl
-number-tail x s at (suc k) = ap (λ (m : ℕ). getD s at 0 + 256 * m) (number-tail x s (suc at) k)
+-- two readings whose bytes agree give one number
+pub numbers-agree : (f g : ℕ → ℕ) (a b k : ℕ) → ((i : ℕ) → i < k → f (a + i) ≡ g (b + i)) → numberBy f a k ≡ numberBy g b k
+unfolding numberBy
+numbers-agree f g a b zero h = refl
+numbers-agree f g a b (suc k) h =
+    let first : f a ≡ g b = ap f (sym (add-zero a)) ∙ h 0 (omega arith) ∙ ap g (add-zero b) in
+    let rest : numberBy f (suc a) k ≡ numberBy g (suc b) k =
+    numbers-agree f g (suc a) (suc b) k (λ i l. let x : suc a + i ≡ a + suc i = omega arith in let y : b + suc i ≡ suc b + i = omega arith in ap f x ∙ h (suc i) (omega arith) ∙ ap g y) in
+    omega (arith, first, rest)
 
 -- reading gives back what was written
 pub number-le : (k n : ℕ) → n < 256 ^ k → number (le k n) 0 k ≡ n
-unfolding number le
+unfolding numberBy le
 number-le zero n h = omega arith
 number-le (suc k) n h =
-    let rest : number (le k (n / 256)) 0 k ≡ n / 256 = number-le k (n / 256) (omega (arith, pow-suc 256 k)) in
-    omega (arith, number-tail (n % 256) (le k (n / 256)) 0 k)
+    let tail : number (n % 256 ∷ le k (n / 256)) 1 k ≡ number (le k (n / 256)) 0 k =
+    numbers-agree (λ i. getD (n % 256 ∷ le k (n / 256)) i 0) (λ i. getD (le k (n / 256)) i 0) 1 0 k (λ i l. let x : 1 + i ≡ suc i = omega arith in let y : 0 + i ≡ i = omega arith in rw (x, y)) in
+    omega (arith, tail, number-le k (n / 256) (omega (arith, pow-suc 256 k)))
 
 -- the state of a loop that reads k bytes from the last to the first, with i of them left
-pub record Reading (s : List ℕ) (at k value i : ℕ) : Type 0 where
+pub record Reading (byte : ℕ → ℕ) (at k value i : ℕ) : Type 0 where
   pub most : i ≤ k
-  pub sum : value ≡ number s (at + i) (k - i)
+  pub sum : value ≡ numberBy byte (at + i) (k - i)
   pub small : value < 256 ^ (k - i)
 
-none : (s : List ℕ) (at i : ℕ) → i ≡ 0 → number s at i ≡ 0
-unfolding number
-none s at i e = rw e
+module _ (byte : ℕ → ℕ) where
+  none : (at i : ℕ) → i ≡ 0 → numberBy byte at i ≡ 0
+  unfolding numberBy
+  none at i e = rw e
 
-one-more : (s : List ℕ) (at k : ℕ) → number s at (suc k) ≡ getD s at 0 + 256 * number s (suc at) k
-unfolding number
-one-more s at k = refl
+  one-more : (at k : ℕ) → numberBy byte at (suc k) ≡ byte at + 256 * numberBy byte (suc at) k
+  unfolding numberBy
+  one-more at k = refl
 
-pub reading-starts : (s : List ℕ) (at k : ℕ) → Reading s at k 0 k
-reading-starts s at k =
-    record { most = omega arith; sum = sym (none s (at + k) (k - k) (omega arith)); small = let e : k - k ≡ 0 = omega arith in rw e (omega arith) }
+  pub reading-starts : (at k : ℕ) → Reading byte at k 0 k
+  reading-starts at k =
+      record { most = omega arith; sum = sym (none (at + k) (k - k) (omega arith)); small = let e : k - k ≡ 0 = omega arith in rw e (omega arith) }
 
-module _ (s : List ℕ) (at k value i : ℕ) (r : Reading s at k value i) where
-  pub reading-ends : i ≤ 0 → (value ≡ number s at k) × (value < 256 ^ k)
-  reading-ends z =
-      let e : i ≡ 0 = omega arith in
-      let p : at + i ≡ at = omega arith in
-      let q : k - i ≡ k = omega arith in
-      (rw (p, q) at (r .sum), rw q at (r .small))
+  module _ (at k value i : ℕ) (r : Reading byte at k value i) where
+    pub reading-ends : i ≤ 0 → (value ≡ numberBy byte at k) × (value < 256 ^ k)
+    reading-ends z =
+        let p : at + i ≡ at = omega arith in
+        let q : k - i ≡ k = omega arith in
+        (rw (p, q) at (r .sum), rw q at (r .small))
 
-  module _ (left : 0 < i) where
-    pub reading-fits : k ≤ 8 → value < 2 ^ 56
-    reading-fits h = omega (arith, r .small, pow-le-pow-right {n = 256} (omega arith) {i = k - i} {j = 7} (omega (arith, r .most)))
+    module _ (left : 0 < i) where
+      pub reading-fits : k ≤ 8 → value < 2 ^ 56
+      reading-fits h = omega (arith, r .small, pow-le-pow-right {n = 256} (omega arith) {i = k - i} {j = 7} (omega (arith, r .most)))
 
-    pub reading-turn : (b : ℕ) → b ≡ getD s (at + (i - 1)) 0 → b < 256 → Reading s at k (value * 256 + b) (i - 1)
-    reading-turn b e w =
-        let p : k - (i - 1) ≡ suc (k - i) = omega (arith, r .most) in
-        let q : suc (at + (i - 1)) ≡ at + i = omega arith in
-        record {
-          most = omega (arith, r .most);
-          sum = rw p (omega (arith, one-more s (at + (i - 1)) (k - i), ap (λ (x : ℕ). number s x (k - i)) q, r .sum));
-          small = rw p (omega (arith, pow-suc 256 (k - i), r .small));
-        }
+      pub reading-turn : (b : ℕ) → b ≡ byte (at + (i - 1)) → b < 256 → Reading byte at k (value * 256 + b) (i - 1)
+      reading-turn b e w =
+          let p : k - (i - 1) ≡ suc (k - i) = omega (arith, r .most) in
+          let q : suc (at + (i - 1)) ≡ at + i = omega arith in
+          record {
+            most = omega (arith, r .most);
+            sum = rw p (omega (arith, one-more (at + (i - 1)) (k - i), ap (λ (x : ℕ). numberBy byte x (k - i)) q, r .sum));
+            small = rw p (omega (arith, pow-suc 256 (k - i), r .small));
+          }
 
 -- a turn of a loop that stores the bytes of a number, with the rest of it to come
 pub put-turn : (s : List ℕ) (at i rest : ℕ) → i < 8

@@ -8,10 +8,13 @@ unfoldable pub le : ℕ → ℕ → List ℕ
 le zero n = []
 le (suc k) n = (n % 256) ∷ le k (n / 256)
 
--- the number in the k bytes of s from a place on
-unfoldable pub number : List ℕ → ℕ → ℕ → ℕ
-number s at zero = 0
-number s at (suc k) = getD s at 0 + 256 * number s (suc at) k
+-- the number in the k bytes from a place on, the lowest first, where `byte` gives the byte at each place; of a list of bytes
+unfoldable pub numberBy : (ℕ → ℕ) → ℕ → ℕ → ℕ
+numberBy byte at zero = 0
+numberBy byte at (suc k) = byte at + 256 * numberBy byte (suc at) k
+
+abbrev pub number : List ℕ → ℕ → ℕ → ℕ
+number s at k = numberBy (λ i. getD s i 0) at k
 
 -- a response: type, padding, state
 unfoldable pub responseBytes : ℕ → ℕ → List ℕ

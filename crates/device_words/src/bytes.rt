@@ -6,16 +6,16 @@ ghost use Prim.Native.Nat.{_+_, _≤_, _<_, _^_};
 ghost use Rattle.device_words.specs.Bytes.{le, number, responseBytes, configurationBytes};
 use map_records::map::GuestAddress;
 
-fn wide(x: u8) -> u64
+pub fn wide(x: u8) -> u64
     ensures { λ r. ⌜ (r ≡ x) × (r < 256) ⌝ }
 {
     x as u64
 }
 
-// The number in the k bytes of a request from a place on.
-pub fn number_at(bytes: [u8; 24], at: usize, k: usize) -> u64
-    requires { ⌜ (k ≤ 8) × (at + k ≤ 24) ⌝ }
-    ensures { λ r. ⌜ (r ≡ number bytes at k) × (r < 256 ^ k) ⌝ }
+// The number in the k bytes from a place on.
+pub fn number_at(bytes: &[u8], at: usize, k: usize) -> u64
+    requires { ⌜ (k ≤ 8) × (at + k ≤ length (now bytes)) ⌝ }
+    ensures { λ r. ⌜ (r ≡ number (now (bytes .entry)) at k) × (r < 256 ^ k) ⌝ }
 {
     let mut value: u64 = 0;
     let mut i = k;

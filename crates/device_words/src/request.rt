@@ -29,9 +29,9 @@ pub enum Response {
 pub fn request_of(bytes: [u8; 24]) -> Request
     ensures { λ r. ⌜ (r ≡ requestOf bytes) × (r .blocks < 65536) ⌝ }
 {
-    let kind = number_at(bytes, 0, 2);
-    let addr = number_at(bytes, 8, 8);
-    let blocks = number_at(bytes, 16, 2);
+    let kind = number_at(&bytes, 0, 2);
+    let addr = number_at(&bytes, 8, 8);
+    let blocks = number_at(&bytes, 16, 2);
     Request {
         kind: kind,
         addr: GuestAddress(addr),

@@ -1,19 +1,16 @@
--- Laws of the guest's bytes: the bounds of one, and the turns of the loops that read a number, fill a slice, and write bytes. Assumes nothing.
+-- Laws of the guest's bytes: the bounds of one, and the turns of the loops that fill a slice and write bytes. Assumes nothing.
 use mathlib.Core.Path.{_≡_, refl, sym, ap, _∙_}
-use mathlib.Core.Bool.{true}
 use mathlib.Core.List.{List, map}
-use Prim.Native.Nat.{ℕ, zero, suc, _+_, _-_, _*_, _^_, _≤_, _<_}
-use native.Mathlib.Nat.{add-zero, pow-suc, pow-le-pow-right}
+use Prim.Native.Nat.{ℕ, zero, suc, _+_, _-_, _^_, _≤_, _<_}
+use native.Mathlib.Nat.{add-zero}
 use native.Mathlib.Numerals.{add-one}
 use native.Mathlib.Omega.{arith}
 use lib.ListN.{length, getD, set, drop, drop-of-length-le, length-map, length-set}
 use lib.Seq.{sets, drop-cons}
-use Rattle.map_records.specs.View.{entries}
-use Rattle.map_records.specs.View.{rangeOf}
 use Rattle.map_records.specs.declared.view.FlatView.{FlatView}
 use Rattle.map_records.proofs.StoreLaws.{over}
-use Rattle.guest_view.specs.Guest.{leafAt, placeLeaf, addresses, byteAt, numberAt, written}
-use Rattle.guest_view.specs.Contracts.{memoryKind, memoryLeaf, Ordered, Backed, InMemory, Spot, placeIn}
+use Rattle.guest_view.specs.Guest.{addresses, written}
+use Rattle.guest_view.specs.Contracts.{Ordered, Backed, InMemory, placeIn}
 use Rattle.guest_view.proofs.GuestLaws.{memory-low, memory-part, place-below}
 
 -- byte i of a stretch that lies in the memory
@@ -26,46 +23,6 @@ module _ (v : FlatView) (a n i : ℕ) (m : InMemory v a n) (h : i < n) where
 
   pub byte-place : (memory p : ℕ) → Backed v memory → p ≡ placeIn v (a + i) → p < memory
   byte-place memory p b e = omega (arith, e, place-below v (a + i) (m .each i h) memory b)
-
--- the state of a loop that reads a number of k bytes from the last to the first, with i of them left
-pub record Reading (place : ℕ → ℕ) (memory : List ℕ) (a k value i : ℕ) : Type 0 where
-  pub most : i ≤ k
-  pub sum : value ≡ numberAt place memory (a + i) (k - i)
-  pub small : value < 256 ^ (k - i)
-
-module _ (place : ℕ → ℕ) (memory : List ℕ) where
-  none : (a i : ℕ) → i ≡ 0 → numberAt place memory a i ≡ 0
-  unfolding numberAt
-  none a i e = rw e
-
-  one-more : (a k : ℕ) → numberAt place memory a (suc k) ≡ byteAt place memory a + 256 * numberAt place memory (suc a) k
-  unfolding numberAt
-  one-more a k = refl
-
-  pub reading-starts : (a k : ℕ) → Reading place memory a k 0 k
-  reading-starts a k =
-      record { most = omega arith; sum = sym (none (a + k) (k - k) (omega arith)); small = let e : k - k ≡ 0 = omega arith in rw e (omega arith) }
-
-  module _ (a k value i : ℕ) (r : Reading place memory a k value i) where
-    pub reading-ends : i ≤ 0 → (value ≡ numberAt place memory a k) × (value < 256 ^ k)
-    reading-ends z =
-        let p : a + i ≡ a = omega arith in
-        let q : k - i ≡ k = omega arith in
-        (rw (p, q) at (r .sum), rw q at (r .small))
-
-    pub reading-fits : 0 < i → k ≤ 8 → value < 2 ^ 56
-    reading-fits left h = omega (arith, r .small, pow-le-pow-right {n = 256} (omega arith) {i = k - i} {j = 7} (omega (arith, r .most)))
-
-    pub reading-turn : 0 < i → (p b : ℕ) → p ≡ place (a + (i - 1)) → b ≡ getD memory p 0 → b < 256 → Reading place memory a k (value * 256 + b) (i - 1)
-    reading-turn left p b e f w =
-        let n : k - (i - 1) ≡ suc (k - i) = omega (arith, r .most) in
-        let q : suc (a + (i - 1)) ≡ a + i = omega arith in
-        let g = f ∙ ap (λ (x : ℕ). getD memory x 0) e in
-        record {
-          most = omega (arith, r .most);
-          sum = rw n (omega (arith, one-more (a + (i - 1)) (k - i), ap (λ (x : ℕ). numberAt place memory x (k - i)) q, r .sum));
-          small = rw n (omega (arith, pow-suc 256 (k - i), r .small));
-        }
 
 -- ---- the state of a loop that fills a slice with what the addresses from a on give, i of them done
 pub addresses-length : (a n : ℕ) → length (addresses a n) ≡ n

@@ -6,6 +6,7 @@ use native.Mathlib.Nat.{add-zero}
 use native.Mathlib.Omega.{arith}
 use lib.ListN.{length, getD}
 use Rattle.map_records.specs.declared.view.FlatView.{FlatView}
+use Rattle.device_words.proofs.ByteLaws.{numbers-agree}
 use Rattle.guest_view.specs.Guest.{addresses, byteAt, numberAt}
 use Rattle.guest_view.specs.Contracts.{Ordered, Backed, InMemory, Runs, placeIn}
 use Rattle.guest_view.proofs.GuestLaws.{place-below}
@@ -18,15 +19,6 @@ pub runs-first : (v : FlatView) (a p left : ℕ) → Runs v a p left → p ≡ p
 runs-first v a p left runs = sym (ap (placeIn v) (sym (add-zero a)) ∙ runs .each 0 (omega arith) ∙ add-zero p)
 
 -- what is read of bytes side by side is what is read by their addresses
-number-runs : (f : ℕ → ℕ) (mem : List ℕ) (a p n : ℕ) → ((i : ℕ) → i < n → f (a + i) ≡ p + i) → numberAt (λ x. x) mem p n ≡ numberAt f mem a n
-unfolding numberAt
-number-runs f mem a p zero h = refl
-number-runs f mem a p (suc n) h =
-    let e : f a ≡ p = ap f (sym (add-zero a)) ∙ h 0 (omega arith) ∙ add-zero p in
-    let r : numberAt (λ x. x) mem (suc p) n ≡ numberAt f mem (suc a) n =
-    number-runs f mem (suc a) (suc p) n (λ i b. let x : suc a + i ≡ a + suc i = omega arith in let y : p + suc i ≡ suc p + i = omega arith in ap f x ∙ h (suc i) (omega arith) ∙ y) in
-    omega (arith, ap (λ (x : ℕ). getD mem x 0) e, r)
-
 map-runs : (f g : ℕ → ℕ) (a p n : ℕ) → ((i : ℕ) → i < n → f (a + i) ≡ g (p + i)) → map g (addresses p n) ≡ map f (addresses a n)
 unfolding addresses
 map-runs f g a p zero h = refl
@@ -44,7 +36,7 @@ as-they-are a (suc n) = let r = as-they-are (suc a) n in cc
 
 module _ (v : FlatView) (a p left n : ℕ) (runs : Runs v a p left) (some : 0 < n) (few : n - 1 ≤ left) where
   pub runs-number : (mem : List ℕ) → numberAt (λ x. x) mem p n ≡ numberAt (placeIn v) mem a n
-  runs-number mem = number-runs (placeIn v) mem a p n (λ i b. runs .each i (omega arith))
+  runs-number mem = numbers-agree (byteAt (λ x. x) mem) (byteAt (placeIn v) mem) p a n (λ i b. ap (λ (x : ℕ). getD mem x 0) (sym (runs .each i (omega arith))))
 
   pub runs-bytes : (mem : List ℕ) → map (byteAt (λ x. x) mem) (addresses p n) ≡ map (byteAt (placeIn v) mem) (addresses a n)
   runs-bytes mem = map-runs (byteAt (placeIn v) mem) (byteAt (λ x. x) mem) a p n (λ i b. ap (λ (x : ℕ). getD mem x 0) (runs .each i (omega arith)))

@@ -2,7 +2,7 @@
 use mathlib.Core.Path.{_≡_}
 use mathlib.Core.Bool.{Bool, true, false, cond, _&&_, _||_}
 use mathlib.Core.List.{List, [], _∷_}
-use Prim.Native.Nat.{ℕ, zero, suc, _+_, _-_, _*_}
+use Prim.Native.Nat.{ℕ, zero, suc, _+_}
 use lib.Dec.{eqb}
 use lib.ListN.{getD, set}
 use Rattle.map_records.specs.Map.{ram, managed}
@@ -15,6 +15,7 @@ use Rattle.region_map.specs.declared.resolve.Resolved.{Resolved}
 use Rattle.region_map.specs.declared.resolve.Resolved.the-variants.{Nothing, At}
 use Rattle.map_records.specs.declared.view.FlatRange.{FlatRange}
 use Rattle.map_records.specs.declared.view.FlatView.{FlatView}
+use Rattle.device_words.specs.Bytes.{numberBy}
 use Rattle.device_words.specs.Device.{MemoryDevice, pluggedIn, pluggedAt}
 
 -- what an address answers, with the node's values: nothing, or the node, its kind, its memory start or port, and the offset in it
@@ -82,13 +83,12 @@ unfoldable pub addresses : ℕ → ℕ → List ℕ
 addresses a zero = []
 addresses a (suc n) = a ∷ addresses (suc a) n
 
--- the byte at an address, and the little-endian number of the k bytes from a on
+-- the byte at an address, and the number in the k bytes from a on
 abbrev pub byteAt : (ℕ → ℕ) → List ℕ → ℕ → ℕ
 byteAt place memory a = getD memory (place a) 0
 
-unfoldable pub numberAt : (ℕ → ℕ) → List ℕ → ℕ → ℕ → ℕ
-numberAt place memory a zero = 0
-numberAt place memory a (suc k) = byteAt place memory a + 256 * numberAt place memory (suc a) k
+abbrev pub numberAt : (ℕ → ℕ) → List ℕ → ℕ → ℕ → ℕ
+numberAt place memory a k = numberBy (λ x. byteAt place memory x) a k
 
 -- bytes written at memory places: 'in that order, byte by byte, a later write winning'
 unfoldable pub written : List ℕ → List ℕ → List ℕ → List ℕ

@@ -10,14 +10,10 @@ ghost use Rattle.guest_view.specs.Contracts.{Judged, Backed, InMemory, R
 use crate::find::near;
 use crate::place::offset_in;
 use crate::place::place_of;
+use device_words::bytes::number_at;
+use device_words::bytes::wide;
 use map_records::map::GuestAddress;
 use map_records::words::range_at;
-
-fn wide(x: u8) -> u64
-    ensures { λ r. ⌜ (r ≡ x) × (r < 256) ⌝ }
-{
-    x as u64
-}
 
 // A byte's memory place, and how many bytes after it follow it there.
 struct Stretch {
@@ -46,13 +42,7 @@ pub fn number_from(mem: &[u8], place: usize, bytes: u64) -> u64
     requires { ⌜ (place + bytes ≤ length (now mem)) × (bytes ≤ 8) ⌝ }
     ensures { λ r. ⌜ (r ≡ numberAt (λ a. a) (now (mem .entry)) place bytes) × (r < 256 ^ bytes) ⌝ }
 {
-    let mut value: u64 = 0;
-    let mut i = bytes as usize;
-    while 0 < i {
-        i -= 1;
-        value = value * 256 + wide(mem[place + i]);
-    }
-    value
+    number_at(mem, place, bytes as usize)
 }
 
 // The same of bytes that may lie apart.

@@ -9,6 +9,7 @@ use lib.ListN.{length, take, drop, getD, length-append, length-map, length-take,
 use lib.Seq.{sets, sets-eq, length-sets, take-at, length-take-le, drop-drop}
 use borrow.Author.Tests.{lt-ltb, le-ltb}
 use Rattle.guest_view.specs.Guest.{byteAt, addresses, numberAt}
+use Rattle.device_words.specs.Bytes.{numberBy}
 use Rattle.virtqueue.specs.Chain.{Chain, Entry, out, here, whole, ended, element, Following, onward, astray, nextBelow, goOn, hasNext, isWritable, misplaced, visit, follow, endOf, readable, writable, total, firstBytes, descriptorAt}
 use Rattle.virtqueue.specs.Step.{requestBytes, responsePlaces}
 use Rattle.virtqueue.specs.Contracts.{Got, added, stopAt, Visits, Gathers}
@@ -240,7 +241,7 @@ byte-laid f a (suc n) (suc o) h = let e : suc a + o ≡ a + suc o = omega arith 
 
 pub number-laid : (place : ℕ → ℕ) (memory : List ℕ) (a n o k : ℕ) → o + k ≤ n
     → numberAt (λ x. x) (map (byteAt place memory) (addresses a n)) o k ≡ numberAt place memory (a + o) k
-unfolding numberAt
+unfolding numberBy
 number-laid place memory a n o zero h = refl
 number-laid place memory a n o (suc k) h =
     let e : a + suc o ≡ suc (a + o) = omega arith in

@@ -7,6 +7,7 @@ use native.Mathlib.Omega.{arith}
 use lib.ListN.{getD}
 use Rattle.region_map.proofs.Bools.{and-fst, and-snd}
 use Rattle.guest_view.specs.Guest.{Guest, allReach, addresses, byteAt, numberAt}
+use Rattle.device_words.specs.Bytes.{numberBy}
 use Rattle.virtqueue.specs.Chain.{Chain, Entry, out, here, whole, ended, rejected, element, Following, onward, astray, nextBelow, goOn, misplaced, hasNext, isWritable, visit, follow, readable, writable, firstBytes, fetched, reached, chainAt}
 use Rattle.virtqueue.specs.declared.chain.Descriptor.{Descriptor}
 
@@ -42,7 +43,7 @@ module _ (reach : ℕ → Bool) where
   -- two readings of the places of reachable bytes give one number
   pub number-same : (f g : ℕ → ℕ) (memory : List ℕ) → ((a : ℕ) → reach a ≡ true → f a ≡ g a) → (a k : ℕ) → allReach reach a k ≡ true
       → numberAt f memory a k ≡ numberAt g memory a k
-  unfolding numberAt allReach
+  unfolding numberBy allReach
   number-same f g memory same a zero p = refl
   number-same f g memory same a (suc k) p =
       let x : byteAt f memory a ≡ byteAt g memory a = ap (λ (i : ℕ). getD memory i 0) (same a (and-fst (reach a) (allReach reach (suc a) k) p)) in

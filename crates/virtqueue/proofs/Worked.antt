@@ -10,7 +10,8 @@ use Rattle.device_words.specs.Request.{plug, unplug, state, answered}
 use Rattle.device_words.specs.Device.{MemoryDevice}
 use Rattle.device_words.specs.declared.request.Response.{Response}
 use Rattle.device_words.specs.declared.request.Response.the-variants.{Ack, Nack, Busy, Error, Plugged, Mixed}
-use Rattle.guest_view.specs.Guest.{Guest, allReach, numberAt}
+use Rattle.device_words.specs.Bytes.{numberBy}
+use Rattle.guest_view.specs.Guest.{Guest, allReach}
 use Rattle.virtqueue.specs.Queue.{distance}
 use Rattle.virtqueue.specs.Contracts.{noticesOf}
 use Rattle.virtqueue.specs.declared.queue.SplitQueue.{SplitQueue}
@@ -89,5 +90,5 @@ answerTo (request p q k a n) = response (answered (device p q) (record { kind = 
 answerTo (ring n xs) = counts (map (λ (x : ℕ × ℕ). countOf (x .0) (x .1) (noticesOf guest (ringBytes (x .1)) (queue n (x .0)))) xs)
 
 pub worked-values : map (λ (r : Row). answerTo (r .question)) rows ≡ map (λ (r : Row). r .answer) rows
-unfolding rows row answerTo device guest queue ringBytes countOf answered pluggedSize heldIn bitsIn setIn anyBelow noticesOf allReach numberAt
+unfolding rows row answerTo device guest queue ringBytes countOf answered pluggedSize heldIn bitsIn setIn anyBelow noticesOf allReach numberBy
 worked-values = refl

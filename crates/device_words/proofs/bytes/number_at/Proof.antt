@@ -1,16 +1,17 @@
--- `device_words::bytes::number_at` meets its contract. Assumes nothing.
+-- `device_words::bytes::number_at` meets its contract.
 -- The invariant: the bytes read so far, from the last on, give the value. The measure is how many are left. Assumes nothing.
 use Rattle.device_words.proofs.ByteLaws.{Reading, reading-starts, reading-ends, reading-fits, reading-turn}
 use native.Mathlib.Omega.{arith}
+use lib.ListN.{getD}
 use borrow.Author.Needs.{needs}
 use Rattle.device_words.proofs.bytes.number_at.Statement.{statement}
 use Rattle.device_words.proofs.bytes.number_at.Tie as tie
 
 abbrev Inv-loop : tie.InvT-loop
-Inv-loop at k bytes value₀ i₀ value i = Reading bytes at k value i
+Inv-loop bytes at k value₀ i₀ value i = Reading (λ a. getD bytes a 0) at k value i
 
 abbrev μ-loop : tie.MeasureT-loop
-μ-loop at k bytes value₀ i₀ value i = i
+μ-loop bytes at k value₀ i₀ value i = i
 
 loop-holds : tie.Need-loop-holds Inv-loop μ-loop
 loop-holds c = reading-starts _ _ _
@@ -24,20 +25,20 @@ mul-value c = omega (arith, reading-fits _ _ _ _ _ (c .before .loop .inv) (c .lo
 add-wide : tie.Need-add-wide Inv-loop μ-loop
 add-wide c = search needs
 
-array-read-wide : tie.Need-array-read-wide Inv-loop μ-loop
-array-read-wide c = search needs
+shared-slice-read-wide : tie.Need-shared-slice-read-wide Inv-loop μ-loop
+shared-slice-read-wide c = search needs
 
 wide-requires : tie.Need-wide-requires Inv-loop μ-loop
 wide-requires c κs = search needs
 
 add-value : tie.Need-add-value Inv-loop μ-loop
-add-value c = omega (arith, reading-fits _ _ _ _ _ (c .before .before .loop .inv) (c .before .loop-test .taken) (omega arith))
+add-value c = omega (arith, reading-fits _ _ _ _ _ (c .before .before .before .loop .inv) (c .before .before .loop-test .taken) (omega arith))
 
 loop-less : tie.Need-loop-less Inv-loop μ-loop
 loop-less c = search needs
 
 loop-again : tie.Need-loop-again Inv-loop μ-loop
-loop-again c = reading-turn _ _ _ _ _ (c .before .before .loop .inv) (c .before .loop-test .taken) _ (c .wide .ensures .0) (c .wide .ensures .1)
+loop-again c = reading-turn _ _ _ _ _ (c .before .before .before .loop .inv) (c .before .before .loop-test .taken) _ (c .wide .ensures .0) (c .wide .ensures .1)
 
 returns : tie.Need-returns Inv-loop μ-loop
 returns c = reading-ends _ _ _ _ _ (c .before .loop .inv) (c .loop-test .left)
@@ -52,7 +53,7 @@ number-at-spec =
     sub-i
     mul-value
     add-wide
-    array-read-wide
+    shared-slice-read-wide
     wide-requires
     add-value
     loop-less
