@@ -8,13 +8,14 @@ use native.Mathlib.Nat.{mul-le-mul, le-of-mul-le-mul-right, add-mul, div-mul-le-
 use lib.Dec.{eqb, leb, ltb}
 use borrow.Author.Tests.{le-leb, lt-leb, leb-true, eqb-true, eqb-false, eq-eqb, ne-eqb}
 use Rattle.device_words.specs.Table.{bitAt, within, tableOf, heldIn}
-use Rattle.device_words.specs.Device.{noBlocks, withPlugged, Sized}
-use Rattle.device_words.specs.Request.{blockOf, inRange, plugAnswer, unplugAnswer, unplugAllAnswer, heldOf, stateAnswer, answered, withRun, isAck, acknowledged, changedBy, Run}
+use Rattle.device_words.specs.Device.{noBlocks, withPlugged}
+use Rattle.device_words.specs.Request.{blockOf, inRange, plugAnswer, unplugAnswer, unplugAllAnswer, heldOf, stateAnswer, answered, withRun, isAck, acknowledged, changedBy}
+use Rattle.device_words.specs.Contracts.{Sized, Run}
 use Rattle.device_words.specs.declared.request.Response.{Response}
 use Rattle.device_words.specs.declared.request.Response.the-variants as response
 use Rattle.device_words.specs.Device.{MemoryDevice}
 use Rattle.device_words.specs.declared.request.Request.{Request}
-use Rattle.device_words.proofs.RuleLaws.{sum-within}
+use Rattle.map_records.proofs.NumberLaws.{sum-within}
 use Rattle.device_words.proofs.WordLaws.{any-held, any-free}
 use Rattle.region_map.proofs.Bools.{never, and-fst, and-snd, and-off}
 

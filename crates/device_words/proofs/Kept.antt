@@ -9,22 +9,23 @@ use lib.Dec.{eqb, leb, ltb}
 use borrow.Author.Tests.{leb-true, ltb-true, eqb-true, eqb-false}
 use Rattle.region_map.proofs.Bools.{never, and-fst, and-snd}
 use Rattle.device_words.specs.Table.{bitAt, within, tableOf}
-use Rattle.device_words.specs.Device.{MemoryDevice, pinnedIn, isPinned, anyPinned, noBlocks, withPlugged, setupOk, tablesOk, deviceOk, Valid}
+use Rattle.device_words.specs.Device.{MemoryDevice, pinnedIn, isPinned, anyPinned, noBlocks, withPlugged, setupOk, setUpOk, tablesOk, deviceOk}
+use Rattle.device_words.specs.Contracts.{Valid}
 use Rattle.device_words.specs.Request.{blockOf, inRange, heldOf, answered, isAck, withRun, acknowledged, changedBy}
 use Rattle.device_words.specs.declared.request.Request.{Request}
 use Rattle.device_words.specs.declared.request.Response.the-variants as response
 use Rattle.device_words.proofs.TableLaws.{table-bit, zero-bit}
 use Rattle.device_words.proofs.WordLaws.{none-of}
 use Rattle.device_words.proofs.AnswerLaws.{in-end, ack-range, ack-kind, all-answer, unplug-answer}
-use Rattle.device_words.proofs.RuleLaws.{only-of, part-of, setup-ruled, device-valid, valid-sizes, blocks-mono}
+use Rattle.device_words.proofs.RuleLaws.{implies-of, only-of, setup-ruled, device-valid, valid-sizes, blocks-mono}
 
 -- the setup part of a record that keeps its rules
-pub setup-of : (d : MemoryDevice) → deviceOk d ≡ true → setupOk (d .«block_size») (d .addr) (d .«region_size») (d .«usable_size») (d .«requested_size») ≡ true
+pub setup-of : (d : MemoryDevice) → deviceOk d ≡ true → setUpOk d ≡ true
 unfolding deviceOk
-setup-of d h = and-fst (setupOk (d .«block_size») (d .addr) (d .«region_size») (d .«usable_size») (d .«requested_size»)) (tablesOk d) h
+setup-of d h = and-fst (setUpOk d) (tablesOk d) h
 
 -- a record keeps its rules where its sizes do, what is plugged is usable, and what is pinned is plugged
-pub device-ok : (d : MemoryDevice) → setupOk (d .«block_size») (d .addr) (d .«region_size») (d .«usable_size») (d .«requested_size») ≡ true
+pub device-ok : (d : MemoryDevice) → setUpOk d ≡ true
     → ((b : ℕ) → b < 1024 → bitAt (d .plugged) b ≡ true → b < d .«usable_size» / d .«block_size»)
     → ((b : ℕ) → b < 1024 → isPinned d b ≡ true → bitAt (d .plugged) b ≡ true) → deviceOk d ≡ true
 unfolding deviceOk tablesOk
@@ -33,10 +34,10 @@ device-ok d s p q =
     let wide : d .«usable_size» / d .«block_size» ≤ d .«region_size» / d .«block_size» = blocks-mono (d .«block_size») (d .«usable_size») (d .«region_size») (omega (arith, r .least)) (r .usable) in
     rw (
       s,
-      only-of (d .plugged) (d .«region_size» / d .«block_size») (λ b l e. let z = p b l e in omega arith),
-      only-of (d .pinned) (d .«region_size» / d .«block_size») (λ b l e. let z = p b l (q b l e) in omega arith),
-      only-of (d .plugged) (d .«usable_size» / d .«block_size») p,
-      part-of (d .pinned) (d .plugged) q,
+      only-of (bitAt (d .plugged)) (d .«region_size» / d .«block_size») (λ b l e. let z = p b l e in omega arith),
+      only-of (isPinned d) (d .«region_size» / d .«block_size») (λ b l e. let z = p b l (q b l e) in omega arith),
+      only-of (bitAt (d .plugged)) (d .«usable_size» / d .«block_size») p,
+      implies-of (isPinned d) (bitAt (d .plugged)) q,
     )
 
 -- a block inside or outside a run

@@ -5,9 +5,9 @@ use mathlib.Core.List.{List}
 use Prim.Native.Nat.{ℕ}
 use lib.ListN.{length}
 use Rattle.device_words.specs.Bytes.{responseBytes}
-use Rattle.device_words.specs.Device.{Sized, withPlugged}
-use Rattle.device_words.specs.Request.{requestOf, typeOf, stateOf, answered, isAck, acknowledged, carriedOut}
-use Rattle.device_words.specs.Words.{Fit, deviceAt, deviceOf, deviceWords}
+use Rattle.device_words.specs.Request.{requestOf, typeOf, stateOf, answered, isAck}
+use Rattle.device_words.specs.Words.{deviceAt, deviceOf, deviceWords}
+use Rattle.device_words.specs.Contracts.{Sized, Fit, ackWords, Responds}
 use Rattle.device_words.specs.declared.request.Request.{Request}
 use Rattle.device_words.specs.declared.request.Response.{Response}
 use Rattle.device_words.proofs.AnswerLaws.{change-ack, change-none}
@@ -19,11 +19,8 @@ fits w l z = record { size = l; sized = rw (device-at w l) at z }
 -- the response, and the words that it leaves
 module _ (w s : List ℕ) (l : length w ≡ 37) (q : Request) (e : q ≡ requestOf s) (x : Response) (f : x ≡ answered (deviceAt w) q)
     (out : List ℕ) (o : out ≡ responseBytes (typeOf x) (stateOf x)) where
-  abbrev Leaves : List ℕ → Type 0
-  Leaves w′ = (out ≡ carriedOut (deviceOf w) (requestOf s) .response) × (w′ ≡ deviceWords (carriedOut (deviceOf w) (requestOf s) .device))
-
-  pub leaves-changed : (w′ : List ℕ) → isAck x ≡ true → w′ ≡ deviceWords (withPlugged (deviceAt w) (acknowledged (deviceAt w) q)) → Leaves w′
+  pub leaves-changed : (w′ : List ℕ) → isAck x ≡ true → w′ ≡ ackWords w q → Responds w s out w′
   leaves-changed w′ a p = rw (device-at w l, ← e, ← f) (o, p ∙ ap deviceWords (change-ack (deviceAt w) q x a))
 
-  pub leaves-kept : isAck x ≡ false → Leaves w
+  pub leaves-kept : isAck x ≡ false → Responds w s out w
   leaves-kept a = rw (device-at w l, ← e, ← f) (o, sym (words-back w l) ∙ ap deviceWords (change-none (deviceAt w) q x a))

@@ -1,34 +1,20 @@
 -- Laws of the device's rules. Assumes nothing.
 use mathlib.Core.Path.{_≡_, refl, sym, ap, _∙_}
 use mathlib.Core.Bool.{Bool, true, false, _&&_, _||_, not}
-use mathlib.Core.List.{List}
 use mathlib.Core.Logic.{⊎-elim}
-use Prim.Native.Nat.{ℕ, zero, suc, _+_, _-_, _*_, _/_, _%_, _^_, _≤_, _<_}
+use Prim.Native.Nat.{ℕ, zero, suc, _+_, _*_, _/_, _%_, _^_, _≤_, _<_}
 use native.Mathlib.Nat.{eq-or-lt-of-le, div-lt-iff-lt-mul, le-div-iff-mul-le, div-add-mod', add-mul, one-mul}
 use native.Mathlib.Numerals.{add-one}
 use native.Mathlib.Omega.{arith}
 use lib.Dec.{eqb, leb, ltb}
 use lib.Pow.{pow-mono}
-use borrow.Author.Tests.{leb-true, leb-false, ltb-true, lt-ltb, eqb-true, eqb-false, not-true, eq-eqb, ne-eqb}
-use Rattle.device_words.specs.Table.{bitAt, allBelow, onlyBelow, partOf}
+use borrow.Author.Tests.{leb-true, ltb-true, lt-ltb, eqb-true, eqb-false, not-true, eq-eqb, ne-eqb}
+use Rattle.device_words.specs.Table.{bitAt, only, implies}
 use Rattle.region_map.specs.Fault.{limit}
-use Rattle.device_words.specs.Device.{powerBelow, blockOk, regionOk, addrOk, sizesOk, setupOk, tablesOk, deviceOk, Valid, Sized}
-use Rattle.device_words.specs.Device.{MemoryDevice}
+use Rattle.device_words.specs.Device.{MemoryDevice, isPinned, powerBelow, blockOk, regionOk, addrOk, sizesOk, setupOk, setUpOk, tablesOk, deviceOk}
+use Rattle.device_words.specs.Contracts.{Valid, Sized}
 use Rattle.device_words.proofs.TableLaws.{all-true, all-of}
 use Rattle.region_map.proofs.Bools.{never, and-fst, and-snd, and-off}
-
--- two orders that follow from each other have equal tests
-leb-same : (a b c d : ℕ) → (a ≤ b → c ≤ d) → (c ≤ d → a ≤ b) → leb a b ≡ leb c d
-leb-same a b c d f g = go (leb a b) (leb c d) refl refl
-  where
-    go : (t u : Bool) → leb a b ≡ t → leb c d ≡ u → t ≡ u
-    go true true p q = refl
-    go true false p q = absurd (omega (arith, f (leb-true a b p), leb-false c d q))
-    go false true p q = absurd (omega (arith, g (leb-true c d q), leb-false a b p))
-    go false false p q = refl
-
-pub sum-within : (a b limit : ℕ) → b ≤ limit → leb a (limit - b) ≡ leb (a + b) limit
-sum-within a b limit h = leb-same a (limit - b) (a + b) limit (λ p. omega arith) (λ p. omega arith)
 
 -- the powers of two that a block size may be
 module _ (b : ℕ) where
@@ -72,46 +58,39 @@ blocks-bound b s n p h = let l : s / b < n + 1 = div-lt-iff-lt-mul p .1 (omega (
 pub blocks-mono : (b s t : ℕ) → 0 < b → s ≤ t → s / b ≤ t / b
 blocks-mono b s t p h = le-div-iff-mul-le p .1 (omega (arith, div-add-mod' s b))
 
--- what is plugged lies below u
-module _ (t : List ℕ) (n : ℕ) where
-  pub only-true : onlyBelow t n ≡ true → (b : ℕ) → b < 1024 → bitAt t b ≡ true → b < n
-  only-true h b l e = ltb-true b n (implied (bitAt t b) (ltb b n) (all-true (λ b. not (bitAt t b) || ltb b n) 1024 h b l) e)
+-- blocks of which one thing holds are blocks of which another does, as a test and as a fact
+module _ (f g : ℕ → Bool) where
+  pub implies-true : implies f g ≡ true → (b : ℕ) → b < 1024 → f b ≡ true → g b ≡ true
+  implies-true h b l e = go (f b) (all-true (λ b. not (f b) || g b) 1024 h b l) e
     where
-      implied : (x y : Bool) → (not x || y) ≡ true → x ≡ true → y ≡ true
-      implied true y p q = p
-      implied false y p q = absurd (never (sym q))
+      go : (x : Bool) → (not x || g b) ≡ true → x ≡ true → g b ≡ true
+      go true p q = p
+      go false p q = absurd (never (sym q))
 
-  pub only-of : ((b : ℕ) → b < 1024 → bitAt t b ≡ true → b < n) → onlyBelow t n ≡ true
-  only-of h = all-of (λ b. not (bitAt t b) || ltb b n) 1024 (λ b l. go (bitAt t b) (λ e. lt-ltb b n (h b l e)))
-    where
-      go : {y : Bool} (x : Bool) → (x ≡ true → y ≡ true) → (not x || y) ≡ true
-      go true f = f refl
-      go false f = refl
-
-module _ (t u : List ℕ) where
-  pub part-true : partOf t u ≡ true → (b : ℕ) → b < 1024 → bitAt t b ≡ true → bitAt u b ≡ true
-  part-true h b l e = implied (bitAt t b) (bitAt u b) (all-true (λ b. not (bitAt t b) || bitAt u b) 1024 h b l) e
-    where
-      implied : (x y : Bool) → (not x || y) ≡ true → x ≡ true → y ≡ true
-      implied true y p q = p
-      implied false y p q = absurd (never (sym q))
-
-  pub part-of : ((b : ℕ) → b < 1024 → bitAt t b ≡ true → bitAt u b ≡ true) → partOf t u ≡ true
-  part-of h = all-of (λ b. not (bitAt t b) || bitAt u b) 1024 (λ b l. go (bitAt t b) (h b l))
+  pub implies-of : ((b : ℕ) → b < 1024 → f b ≡ true → g b ≡ true) → implies f g ≡ true
+  implies-of h = all-of (λ b. not (f b) || g b) 1024 (λ b l. go (f b) (h b l))
     where
       go : {y : Bool} (x : Bool) → (x ≡ true → y ≡ true) → (not x || y) ≡ true
-      go true f = f refl
-      go false f = refl
+      go true k = k refl
+      go false k = refl
 
--- two of 27's tests give the other two
-pub tables-two : (p q : List ℕ) (u r : ℕ) → u ≤ r → (onlyBelow p u && partOf q p) ≡ (onlyBelow p r && onlyBelow q r && onlyBelow p u && partOf q p)
-tables-two p q u r h = go (onlyBelow p u) refl (partOf q p) refl
+-- they are below n
+module _ (f : ℕ → Bool) (n : ℕ) where
+  pub only-true : only f n ≡ true → (b : ℕ) → b < 1024 → f b ≡ true → b < n
+  only-true h b l e = ltb-true b n (implies-true f (λ b. ltb b n) h b l e)
+
+  pub only-of : ((b : ℕ) → b < 1024 → f b ≡ true → b < n) → only f n ≡ true
+  only-of h = implies-of f (λ b. ltb b n) (λ b l e. lt-ltb b n (h b l e))
+
+-- two of 27's tests give the other two: p are the plugged blocks, q the pinned ones
+pub tables-two : (p q : ℕ → Bool) (u r : ℕ) → u ≤ r → (only p u && implies q p) ≡ (only p r && only q r && only p u && implies q p)
+tables-two p q u r h = go (only p u) refl (implies q p) refl
   where
-    go : (x : Bool) → onlyBelow p u ≡ x → (y : Bool) → partOf q p ≡ y → (x && y) ≡ (onlyBelow p r && onlyBelow q r && x && y)
+    go : (x : Bool) → only p u ≡ x → (y : Bool) → implies q p ≡ y → (x && y) ≡ (only p r && only q r && x && y)
     go true e true f =
-        rw (only-of p r (λ b l k. let z = only-true p u e b l k in omega arith), only-of q r (λ b l k. let z = only-true p u e b l (part-true q p f b l k) in omega arith))
-    go true e false f = sym (and-off (onlyBelow p r && onlyBelow q r && true))
-    go false e y f = sym (ap (λ (t : Bool). t && y) (and-off (onlyBelow p r && onlyBelow q r)))
+        rw (only-of p r (λ b l k. let z = only-true p u e b l k in omega arith), only-of q r (λ b l k. let z = only-true p u e b l (implies-true q p f b l k) in omega arith))
+    go true e false f = sym (and-off (only p r && only q r && true))
+    go false e y f = sym (ap (λ (t : Bool). t && y) (and-off (only p r && only q r)))
 
 -- SETUP's rules as facts
 pub record Ruled (b addr size used asked : ℕ) : Type 0 where
@@ -159,11 +138,11 @@ pub device-valid : (d : MemoryDevice) → deviceOk d ≡ true → Valid d
 unfolding deviceOk tablesOk
 device-valid d h =
     let b = d .«block_size» in
-    let s = setup-ruled b (d .addr) (d .«region_size») (d .«usable_size») (d .«requested_size»)
-    (and-fst (setupOk b (d .addr) (d .«region_size») (d .«usable_size») (d .«requested_size»)) (tablesOk d) h) in
-    let t = and-snd (setupOk b (d .addr) (d .«region_size») (d .«usable_size») (d .«requested_size»)) (tablesOk d) h in
-    let three = onlyBelow (d .plugged) (d .«region_size» / b) && onlyBelow (d .pinned) (d .«region_size» / b) && onlyBelow (d .plugged) (d .«usable_size» / b) in
-    let two = onlyBelow (d .plugged) (d .«region_size» / b) && onlyBelow (d .pinned) (d .«region_size» / b) in
+    let s = setup-ruled b (d .addr) (d .«region_size») (d .«usable_size») (d .«requested_size») (and-fst (setUpOk d) (tablesOk d) h) in
+    let t = and-snd (setUpOk d) (tablesOk d) h in
+    let plugs = bitAt (d .plugged) in
+    let two = only plugs (d .«region_size» / b) && only (isPinned d) (d .«region_size» / b) in
+    let three = two && only plugs (d .«usable_size» / b) in
     record {
       least = s .least;
       most = s .most;
@@ -176,8 +155,8 @@ device-valid d h =
       usable = s .usable;
       «whole-usable» = s .«whole-usable»;
       «whole-requested» = s .«whole-requested»;
-      inside = only-true (d .plugged) (d .«usable_size» / b) (and-snd two (onlyBelow (d .plugged) (d .«usable_size» / b)) (and-fst three (partOf (d .pinned) (d .plugged)) t));
-      held = part-true (d .pinned) (d .plugged) (and-snd three (partOf (d .pinned) (d .plugged)) t);
+      inside = only-true plugs (d .«usable_size» / b) (and-snd two (only plugs (d .«usable_size» / b)) (and-fst three (implies (isPinned d) plugs) t));
+      held = implies-true (isPinned d) plugs (and-snd three (implies (isPinned d) plugs) t);
     }
 
 -- the sizes that carrying out a request needs are a valid record's

@@ -15,7 +15,8 @@ use lib.ListN.{length, getD, replicate, List·getD-eq-default}
 use lib.Seq.{ext-getD}
 use borrow.Author.Tests.{lt-ltb, le-ltb}
 use Rattle.region_map.proofs.Bools.{never}
-use Rattle.device_words.specs.Table.{bitOf, bitAt, wordOf, wordsOf, tableOf, heldIn, bitsIn, setIn, allBelow, onlyBelow, partOf}
+use Rattle.device_words.specs.Table.{bitOf, bitAt, wordOf, wordsOf, tableOf, heldIn, bitsIn, setIn, allBelow}
+use Rattle.device_words.specs.Contracts.{onlyBelow, partOf}
 
 -- ---- a word and its bits
 

@@ -1,12 +1,11 @@
 -- The device's record, where a block is pinned, and the rules: SETUP's (13) and 27's. Assumes nothing: these are definitions.
-use mathlib.Core.Bool.{Bool, true, false, cond, _&&_, _||_, not}
+use mathlib.Core.Bool.{Bool, false, _&&_, _||_, not}
 use mathlib.Core.List.{List}
-use mathlib.Core.Path.{_≡_}
-use Prim.Native.Nat.{ℕ, zero, suc, _+_, _-_, _*_, _/_, _%_, _^_, _≤_, _<_}
+use Prim.Native.Nat.{ℕ, zero, suc, _+_, _*_, _/_, _%_, _^_}
 use lib.Dec.{eqb, leb}
-use lib.ListN.{length, getD, replicate}
+use lib.ListN.{replicate}
 use Rattle.region_map.specs.Fault.{limit}
-use Rattle.device_words.specs.Table.{bitAt, within, tableOf, setIn, anyBelow, only, implies}
+use Rattle.device_words.specs.Table.{bitAt, turned, setIn, anyBelow, only, implies}
 
 -- the memory device. Block b is plugged, or pinned, where bit b % 64 of word b / 64 is set
 pub record MemoryDevice : Type 0 where
@@ -57,6 +56,9 @@ sizesOk b region usable requested = leb requested usable && leb usable region &&
 unfoldable pub setupOk : ℕ → ℕ → ℕ → ℕ → ℕ → Bool
 setupOk b addr region usable requested = blockOk b && (regionOk b region && (addrOk b addr region && sizesOk b region usable requested))
 
+abbrev pub setUpOk : MemoryDevice → Bool
+setUpOk d = setupOk (d .«block_size») (d .addr) (d .«region_size») (d .«usable_size») (d .«requested_size»)
+
 -- 27 for the device: 'a plugged or pinned block outside the region, a plugged one outside the usable part, a pinned one not plugged'
 unfoldable pub tablesOk : MemoryDevice → Bool
 tablesOk d =
@@ -64,7 +66,7 @@ tablesOk d =
     && only (bitAt (d .plugged)) (d .«usable_size» / d .«block_size») && implies (isPinned d) (bitAt (d .plugged))
 
 unfoldable pub deviceOk : MemoryDevice → Bool
-deviceOk d = setupOk (d .«block_size») (d .addr) (d .«region_size») (d .«usable_size») (d .«requested_size») && tablesOk d
+deviceOk d = setUpOk d && tablesOk d
 
 -- 'Fresh: nothing plugged or pinned'
 abbrev pub noBlocks : List ℕ
@@ -90,7 +92,7 @@ withPins d pins = withTables d (d .plugged) pins
 
 -- the pins with one block's set or not
 abbrev pub withPin : List ℕ → ℕ → Bool → List ℕ
-withPin pins b on = tableOf (λ c. cond (within b 1 c) on (pinnedIn pins c))
+withPin pins b on = turned pins b 1 on
 
 abbrev pub fresh : MemoryDevice → MemoryDevice
 fresh d = withTables d noBlocks noBlocks
@@ -114,25 +116,3 @@ pluggedIn block plugged o = bitAt plugged (o / block)
 
 abbrev pub pluggedAt : MemoryDevice → ℕ → Bool
 pluggedAt d = pluggedIn (d .«block_size») (d .plugged)
-
--- what a valid record is to those who use it
-pub record Valid (d : MemoryDevice) : Type 0 where
-  pub least : 4096 ≤ d .«block_size»
-  pub most : d .«block_size» ≤ 2 ^ 30
-  pub some : 0 < d .«region_size»
-  pub region : d .«region_size» % d .«block_size» ≡ 0
-  pub blocks : d .«region_size» ≤ 1024 * d .«block_size»
-  pub aligned : d .addr % d .«block_size» ≡ 0
-  pub end : d .addr + d .«region_size» ≤ limit
-  pub requested : d .«requested_size» ≤ d .«usable_size»
-  pub usable : d .«usable_size» ≤ d .«region_size»
-  pub «whole-usable» : d .«usable_size» % d .«block_size» ≡ 0
-  pub «whole-requested» : d .«requested_size» % d .«block_size» ≡ 0
-  pub inside : (b : ℕ) → b < 1024 → bitAt (d .plugged) b ≡ true → b < d .«usable_size» / d .«block_size»
-  pub held : (b : ℕ) → b < 1024 → isPinned d b ≡ true → bitAt (d .plugged) b ≡ true
-
--- what carrying out a request needs of a record
-pub record Sized (d : MemoryDevice) : Type 0 where
-  pub some : 0 < d .«block_size»
-  pub most : d .«block_size» ≤ 2 ^ 30
-  pub room : d .«usable_size» ≤ 1024 * d .«block_size»

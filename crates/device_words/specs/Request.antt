@@ -1,12 +1,11 @@
 -- The guest's requests: the range rule, the order of the checks, and the change of the table, each by itself. Assumes nothing: these are definitions.
 use mathlib.Core.Bool.{Bool, true, false, cond, _&&_}
 use mathlib.Core.List.{List}
-use mathlib.Core.Path.{_≡_}
-use Prim.Native.Nat.{ℕ, _+_, _-_, _*_, _/_, _%_, _≤_}
+use Prim.Native.Nat.{ℕ, _+_, _-_, _*_, _/_, _%_}
 use lib.Dec.{eqb, leb, ltb}
 use Rattle.region_map.specs.Reply.{Reply, accepted}
 use Rattle.device_words.specs.Bytes.{number, responseBytes}
-use Rattle.device_words.specs.Table.{bitAt, within, tableOf, heldIn}
+use Rattle.device_words.specs.Table.{turned, heldIn}
 use Rattle.device_words.specs.Device.{MemoryDevice, anyPinned, noBlocks, withPlugged, pluggedSize}
 use Rattle.device_words.specs.declared.request.Request.{Request}
 use Rattle.device_words.specs.declared.request.Response.{Response}
@@ -58,11 +57,6 @@ inRange d r =
     eqb (r .addr .0 % d .«block_size») 0 && leb 1 (r .blocks) && leb (d .addr) (r .addr .0)
     && leb (r .addr .0 - d .addr + r .blocks * d .«block_size») (d .«usable_size»)
 
--- the first block of a request in range, whose blocks are in the table
-pub record Run (d : MemoryDevice) (r : Request) (from : ℕ) : Type 0 where
-  pub first : from ≡ blockOf d (r .addr .0)
-  pub room : from + r .blocks ≤ 1024
-
 -- how many of a request's blocks are set in a table
 abbrev pub heldOf : MemoryDevice → Request → List ℕ → ℕ
 heldOf d r t = heldIn t (blockOf d (r .addr .0)) (r .blocks)
@@ -104,7 +98,7 @@ answered d r =
 
 -- the plug table with a request's blocks set or not
 abbrev pub withRun : MemoryDevice → Request → Bool → List ℕ
-withRun d r on = tableOf (λ b. cond (within (blockOf d (r .addr .0)) (r .blocks) b) on (bitAt (d .plugged) b))
+withRun d r on = turned (d .plugged) (blockOf d (r .addr .0)) (r .blocks) on
 
 -- the plug table after an acknowledged request
 abbrev pub acknowledged : MemoryDevice → Request → List ℕ

@@ -30,6 +30,10 @@ tableOf f = wordsOf f 0 16
 abbrev pub within : ℕ → ℕ → ℕ → Bool
 within from n b = leb from b && ltb b (from + n)
 
+-- a table with the n blocks from `from` on set or not
+abbrev pub turned : List ℕ → ℕ → ℕ → Bool → List ℕ
+turned t from n on = tableOf (λ b. cond (within from n b) on (bitAt t b))
+
 -- how many of the n blocks from `from` on are set
 unfoldable pub heldIn : List ℕ → ℕ → ℕ → ℕ
 heldIn t from zero = 0
@@ -53,16 +57,9 @@ unfoldable pub anyBelow : (ℕ → Bool) → ℕ → Bool
 anyBelow f zero = false
 anyBelow f (suc n) = anyBelow f n || f n
 
--- every block of a table's 1,024 of which f holds is below n; is one of which g holds too
-abbrev pub only : (ℕ → Bool) → ℕ → Bool
-only f n = allBelow (λ b. not (f b) || ltb b n) 1024
-
+-- every block of a table's 1,024 of which f holds is one of which g holds too; is below n
 abbrev pub implies : (ℕ → Bool) → (ℕ → Bool) → Bool
 implies f g = allBelow (λ b. not (f b) || g b) 1024
 
--- every block that is set is below n; is set in the other table too
-abbrev pub onlyBelow : List ℕ → ℕ → Bool
-onlyBelow t n = only (bitAt t) n
-
-abbrev pub partOf : List ℕ → List ℕ → Bool
-partOf t whole = implies (bitAt t) (bitAt whole)
+abbrev pub only : (ℕ → Bool) → ℕ → Bool
+only f n = implies f (λ b. ltb b n)

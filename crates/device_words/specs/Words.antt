@@ -1,11 +1,10 @@
 -- The device's 37 words where they lie: five numbers, sixteen words of the plug table, sixteen of the pins. Assumes nothing: these are definitions.
 use mathlib.Core.Bool.{Bool, cond}
 use mathlib.Core.List.{List, _∷_, _++_}
-use mathlib.Core.Path.{_≡_}
 use Prim.Native.Nat.{ℕ}
 use lib.Dec.{eqb}
 use lib.ListN.{length, getD, take, drop}
-use Rattle.device_words.specs.Device.{MemoryDevice, noDevice, Sized}
+use Rattle.device_words.specs.Device.{MemoryDevice, noDevice}
 
 abbrev pub isDevice : List ℕ → Bool
 isDevice w = eqb (length w) 37
@@ -31,8 +30,3 @@ deviceOf w = cond (isDevice w) (deviceAt w) noDevice
 unfoldable pub deviceWords : MemoryDevice → List ℕ
 deviceWords d =
     d .«block_size» ∷ d .addr ∷ d .«region_size» ∷ d .«usable_size» ∷ d .«requested_size» ∷ (d .plugged ++ d .pinned)
-
--- what the functions over a device's words need of them
-pub record Fit (w : List ℕ) : Type 0 where
-  pub size : length w ≡ 37
-  pub sized : Sized (deviceAt w)

@@ -4,27 +4,23 @@ ghost use mathlib.Core.Path.{_≡_};
 ghost use mathlib.Core.Bool.{true};
 ghost use Prim.Native.Nat.{_<_};
 ghost use lib.ListN.{length};
-ghost use Rattle.device_words.specs.Device.{Sized, withPlugged};
-ghost use Rattle.device_words.specs.Words.{Fit, deviceAt, deviceOf, deviceWords};
-ghost use Rattle.device_words.specs.Request.{Run, requestOf, inRange, plugAnswer, unplugAnswer, unplugAllAnswer, stateAnswer, answered, isAck, acknowledged, carriedOut};
+ghost use Rattle.device_words.specs.Words.{deviceAt, deviceOf};
+ghost use Rattle.device_words.specs.Request.{inRange, plugAnswer, unplugAnswer, unplugAllAnswer, stateAnswer, answered, isAck};
+ghost use Rattle.device_words.specs.Contracts.{Sized, Fit, Run, ackWords, Responds};
 use crate::device::block_of_request;
 use crate::pins::any_pinned;
+use crate::plugs::all_plugged;
+use crate::plugs::none_plugged;
+use crate::plugs::set_plugged;
 use crate::request::Request;
 use crate::request::Response;
 use crate::request::answer_bytes;
 use crate::request::request_of;
 use crate::state::plugged_size;
-use crate::table::all_set;
-use crate::table::clear;
-use crate::table::none_set;
-use crate::table::with_run;
 use crate::words::ADDR;
 use crate::words::BLOCK_SIZE;
-use crate::words::PINNED;
-use crate::words::PLUGGED;
 use crate::words::REQUESTED_SIZE;
 use crate::words::USABLE_SIZE;
-use crate::words::WORDS;
 use map_records::map::GuestAddress;
 
 const PLUG: u64 = 0;
@@ -72,7 +68,7 @@ fn plug_answer(device: &[u64], request: Request, from: usize) -> Response
     ensures { λ r. ⌜ r ≡ plugAnswer (deviceAt (now (device .entry))) request ⌝ }
 {
     let count = request.blocks as usize;
-    if !none_set(&device[PLUGGED..PINNED], from, count) {
+    if !none_plugged(device, from, count) {
         return Response::Error;
     }
     let size = plugged_size(device) + request.blocks * device[BLOCK_SIZE];
@@ -88,10 +84,10 @@ fn unplug_answer(device: &[u64], request: Request, from: usize) -> Response
     ensures { λ r. ⌜ r ≡ unplugAnswer (deviceAt (now (device .entry))) request ⌝ }
 {
     let count = request.blocks as usize;
-    if !all_set(&device[PLUGGED..PINNED], from, count) {
+    if !all_plugged(device, from, count) {
         return Response::Error;
     }
-    if any_pinned(&device[PINNED..WORDS], from, count) {
+    if any_pinned(device, from, count) {
         return Response::Busy;
     }
     Response::Ack
@@ -102,7 +98,7 @@ fn unplug_all_answer(device: &[u64]) -> Response
     requires { ⌜ Fit (now device) ⌝ }
     ensures { λ r. ⌜ r ≡ unplugAllAnswer (deviceAt (now (device .entry))) ⌝ }
 {
-    if any_pinned(&device[PINNED..WORDS], 0, 1024) {
+    if any_pinned(device, 0, 1024) {
         return Response::Busy;
     }
     Response::Ack
@@ -114,10 +110,10 @@ fn state_answer(device: &[u64], request: Request, from: usize) -> Response
     ensures { λ r. ⌜ r ≡ stateAnswer (deviceAt (now (device .entry))) request ⌝ }
 {
     let count = request.blocks as usize;
-    if all_set(&device[PLUGGED..PINNED], from, count) {
+    if all_plugged(device, from, count) {
         return Response::Plugged;
     }
-    if none_set(&device[PLUGGED..PINNED], from, count) {
+    if none_plugged(device, from, count) {
         return Response::Unplugged;
     }
     Response::Mixed
@@ -165,25 +161,24 @@ fn is_ack(response: Response) -> bool
 // The plug table of an acknowledged request, changed where it lies.
 fn acknowledge(device: &mut [u64], request: Request)
     requires { ⌜ Fit (now device) × (isAck (answered (deviceAt (now device)) request) ≡ true) ⌝ }
-    ensures { λ _. ⌜ now (device .exit) ≡ deviceWords (withPlugged (deviceAt (now (device .entry))) (acknowledged (deviceAt (now (device .entry))) request)) ⌝ }
+    ensures { λ _. ⌜ now (device .exit) ≡ ackWords (now (device .entry)) request ⌝ }
 {
     let kind = request.kind;
     if kind == UNPLUG_ALL {
-        clear(&mut device[PLUGGED..PINNED]);
+        set_plugged(device, 0, 1024, false);
         return;
     }
     let from = run_start(device, request);
     let count = request.blocks as usize;
     let on = kind == PLUG;
-    with_run(&mut device[PLUGGED..PINNED], from, count, on);
+    set_plugged(device, from, count, on);
 }
 
 // A request answered and carried out. Only an acknowledgement changes the words, and of them only the
 // plug table, once.
 pub fn respond(device: &mut [u64], bytes: [u8; 24]) -> [u8; 10]
     requires { ⌜ (length (now device) ≡ 37) × Sized (deviceOf (now device)) ⌝ }
-    ensures { λ r. ⌜ (r ≡ carriedOut (deviceOf (now (device .entry))) (requestOf bytes) .response)
-        × (now (device .exit) ≡ deviceWords (carriedOut (deviceOf (now (device .entry))) (requestOf bytes) .device)) ⌝ }
+    ensures { λ r. ⌜ Responds (now (device .entry)) bytes r (now (device .exit)) ⌝ }
 {
     let request = request_of(bytes);
     let response = answer_of(device, request);

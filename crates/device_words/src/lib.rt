@@ -4,6 +4,7 @@ pub mod answer;
 pub mod bytes;
 pub mod device;
 pub mod pins;
+pub mod plugs;
 pub mod request;
 pub mod rules;
 pub mod state;

@@ -1,12 +1,12 @@
 // SETUP's rules, and 27's for a device record.
 ghost use mathlib.Core.Path.{_≡_};
-ghost use Prim.Native.Nat.{_+_, _*_, _≤_, _<_};
-ghost use mathlib.Core.Bool.{_&&_};
-ghost use lib.Dec.{leb};
+ghost use Prim.Native.Nat.{_≤_, _<_};
+ghost use mathlib.Core.Bool.{true, _&&_};
 ghost use lib.ListN.{length};
-ghost use Rattle.device_words.specs.Device.{blockOk, regionOk, addrOk, sizesOk, setupOk, tablesOk, deviceOk};
+ghost use Rattle.device_words.specs.Device.{blockOk, regionOk, addrOk, sizesOk, setupOk, setUpOk, tablesOk, deviceOk};
 ghost use Rattle.device_words.specs.Words.{isDevice, deviceAt, deviceOf};
 use crate::pins::pins_plugged;
+use crate::plugs::blocks_in;
 use crate::table::only_below;
 use crate::words::ADDR;
 use crate::words::BLOCK_SIZE;
@@ -17,6 +17,7 @@ use crate::words::REQUESTED_SIZE;
 use crate::words::USABLE_SIZE;
 use crate::words::WORDS;
 use map_records::map::GuestAddress;
+use map_records::numbers::sum_within;
 
 // The largest end of a region, 2^48.
 const LIMIT: u64 = 281474976710656;
@@ -33,16 +34,6 @@ fn block_ok(block: u64) -> bool
         power *= 2;
     }
     false
-}
-
-// Is the sum at most the limit? It never wraps.
-fn sum_within(a: u64, b: u64, limit: u64) -> bool
-    ensures { λ r. ⌜ r ≡ leb (a + b) limit ⌝ }
-{
-    if limit < b {
-        return false;
-    }
-    a <= limit - b
 }
 
 fn region_ok(block: u64, region: u64) -> bool
@@ -80,15 +71,11 @@ pub fn setup_ok(block: u64, addr: GuestAddress, region: u64, usable: u64, reques
 // 27's rules over the two tables: what is plugged lies in the usable part, and what is pinned is
 // plugged. That both lie in the region follows.
 fn tables_ok(device: &[u64]) -> bool
-    requires { ⌜ length (now device) ≡ 37 ⌝ }
-    requires { ⌜ (0 < deviceAt (now device) .«block_size») × (deviceAt (now device) .«usable_size» ≤ deviceAt (now device) .«region_size»)
-        × (deviceAt (now device) .«region_size» ≤ 1024 * deviceAt (now device) .«block_size») ⌝ }
+    requires { ⌜ (length (now device) ≡ 37) × (setUpOk (deviceAt (now device)) ≡ true) ⌝ }
     ensures { λ r. ⌜ r ≡ tablesOk (deviceAt (now (device .entry))) ⌝ }
 {
-    let blocks = (device[USABLE_SIZE] / device[BLOCK_SIZE]) as usize;
-    let plugged = &device[PLUGGED..PINNED];
-    let pins = &device[PINNED..WORDS];
-    only_below(plugged, blocks) & pins_plugged(pins, plugged)
+    let blocks = blocks_in(device, device[USABLE_SIZE]);
+    only_below(&device[PLUGGED..PINNED], blocks) & pins_plugged(device)
 }
 
 // Do the words of a device keep their rules? Those of another number do not.

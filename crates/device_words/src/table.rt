@@ -4,7 +4,8 @@ ghost use mathlib.Core.Bool.{cond};
 ghost use Prim.Native.Nat.{_+_, _*_, _≤_, _<_};
 ghost use lib.Dec.{eqb, ltb};
 ghost use lib.ListN.{length, replicate};
-ghost use Rattle.device_words.specs.Table.{bitOf, bitAt, wordOf, within, tableOf, heldIn, bitsIn, setIn, onlyBelow, partOf};
+ghost use Rattle.device_words.specs.Table.{bitOf, bitAt, wordOf, within, turned, heldIn, bitsIn, setIn};
+ghost use Rattle.device_words.specs.Contracts.{onlyBelow, partOf};
 
 // Every bit of a word.
 const ALL: u64 = 0xffff_ffff_ffff_ffff;
@@ -55,7 +56,7 @@ fn word_with(word: u64, i: usize, from: usize, n: usize, on: bool) -> u64
 // The n blocks from `from` on are set or not, where they lie.
 pub fn with_run(words: &mut [u64], from: usize, n: usize, on: bool)
     requires { ⌜ (length (now words) ≡ 16) × (from + n ≤ 1024) ⌝ }
-    ensures { λ _. ⌜ now (words .exit) ≡ tableOf (λ b. cond (within from n b) on (bitAt (now (words .entry)) b)) ⌝ }
+    ensures { λ _. ⌜ now (words .exit) ≡ turned (now (words .entry)) from n on ⌝ }
 {
     let end = from + n;
     let mut i = from / 64;

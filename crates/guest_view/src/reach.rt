@@ -1,7 +1,7 @@
 // Reach: an element's bytes, range by range, and in a managed range by runs of blocks.
 ghost use mathlib.Core.Path.{_≡_};
 ghost use mathlib.Core.Bool.{true};
-ghost use Prim.Native.Nat.{ℕ, _+_, _≤_, _<_, min};
+ghost use Prim.Native.Nat.{ℕ, _+_, _≤_, _<_};
 ghost use lib.ListN.{length};
 ghost use Rattle.device_words.specs.Device.{pluggedIn};
 ghost use Rattle.map_records.specs.Words.{viewOf};
@@ -16,6 +16,7 @@ use map_records::map::GuestAddress;
 use map_records::map::MANAGED;
 use map_records::map::RAM;
 use map_records::map::RegionOffset;
+use map_records::numbers::least;
 use map_records::words::count_of;
 use map_records::words::range_at;
 
@@ -25,12 +26,6 @@ pub enum Extent {
     Go(u64),
     // The byte is not.
     Stop,
-}
-
-fn nearer(a: u64, b: u64) -> u64
-    ensures { λ r. ⌜ r ≡ min a b ⌝ }
-{
-    if b < a { b } else { a }
 }
 
 // Is the byte at an offset of the managed region in a plugged block? The table has 1,024.
@@ -79,13 +74,13 @@ fn how_far(
         return Extent::Go(span);
     }
     if kind == MANAGED {
-        let far = nearer(span, wanted);
+        let far = least(span, wanted);
         if run_plugged(block, plugged, offset, far) {
             return Extent::Go(far);
         }
         if is_plugged(block, plugged, offset) {
             let left = block - 1 - offset.0 % block;
-            return Extent::Go(nearer(left, span));
+            return Extent::Go(least(left, span));
         }
         return Extent::Stop;
     }

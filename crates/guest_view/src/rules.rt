@@ -1,8 +1,7 @@
 // 27 for a given flat view.
 ghost use mathlib.Core.Path.{_≡_};
 ghost use mathlib.Core.Bool.{_&&_};
-ghost use Prim.Native.Nat.{ℕ, _+_, _≤_, _<_};
-ghost use lib.Dec.{ltb};
+ghost use Prim.Native.Nat.{ℕ, _≤_, _<_};
 ghost use lib.ListN.{length};
 ghost use Rattle.map_records.specs.View.{rangeOf, lastOffset};
 ghost use Rattle.device_words.specs.Table.{allBelow};
@@ -13,6 +12,7 @@ use crate::place::offset_in;
 use map_records::map::MANAGED;
 use map_records::map::MMIO;
 use map_records::map::RAM;
+use map_records::numbers::sum_within;
 use map_records::view::FlatRange;
 use map_records::words::count_of;
 use map_records::words::range_at;
@@ -20,19 +20,9 @@ use map_records::words::range_at;
 // Addresses and offsets end here: 2^48.
 const LIMIT: u64 = 281474976710656;
 
-// Is the sum below the limit? It never wraps.
-fn sum_below(a: u64, b: u64, limit: u64) -> bool
-    ensures { λ r. ⌜ r ≡ ltb (a + b) limit ⌝ }
-{
-    if limit <= b {
-        return false;
-    }
-    a < limit - b
-}
-
 // The kind of a range, whose last offset is `there`, and where its bytes lie.
 fn backing_ok(range: FlatRange, there: u64, memory: u64, region: u64) -> bool
-    requires { ⌜ there ≡ lastOffset range ⌝ }
+    requires { ⌜ (there ≡ lastOffset range) × (there < 281474976710656) ⌝ }
     ensures { λ r. ⌜ r ≡ (kindOk range && (memoryOk memory range && managedOk region range)) ⌝ }
 {
     let kind = range.kind;
@@ -47,7 +37,7 @@ fn backing_ok(range: FlatRange, there: u64, memory: u64, region: u64) -> bool
             return false;
         }
     }
-    sum_below(range.base, there, memory)
+    sum_within(range.base, there + 1, memory)
 }
 
 // One range by itself.

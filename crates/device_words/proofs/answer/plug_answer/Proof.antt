@@ -1,12 +1,10 @@
 -- `device_words::answer::plug_answer` meets its contract. Assumes nothing.
-use mathlib.Core.Path.{_≡_, ap, _∙_, sym}
+use mathlib.Core.Path.{_≡_}
 use mathlib.Core.Bool.{not}
-use Prim.Native.Nat.{ℕ}
 use native.Mathlib.Omega.{arith}
-use lib.Dec.{eqb, ltb}
-use lib.ListN.{getD, take, drop}
+use lib.Dec.{ltb}
+use lib.ListN.{getD}
 use borrow.Author.Tests.{lt-ltb, le-ltb}
-use Rattle.device_words.specs.Table.{heldIn}
 use Rattle.device_words.specs.Request.{heldOf}
 use Rattle.device_words.specs.Words.{deviceAt}
 use Rattle.device_words.proofs.AnswerLaws.{size-bound, run-some}
@@ -14,22 +12,13 @@ use borrow.Author.Needs.{needs}
 use Rattle.device_words.proofs.answer.plug_answer.Statement.{statement}
 use Rattle.device_words.proofs.answer.plug_answer.Tie as tie
 
-some-is : (c : tie.After-none-set) → let a = c .before .before .before .args in
-    not (c .none-set .result) ≡ ltb 0 (heldOf (deviceAt (a .device .now)) (a .request) (deviceAt (a .device .now) .plugged))
-some-is c = let s = c .before .before .before in
-    run-some (deviceAt (s .args .device .now)) (s .args .request) (s .args .from) (s .pre .1 .first) (deviceAt (s .args .device .now) .plugged) _ (c .none-set .ensures)
+some-is : (c : tie.After-none-plugged) → let a = c .before .before .args in
+    not (c .none-plugged .result) ≡ ltb 0 (heldOf (deviceAt (a .device .now)) (a .request) (deviceAt (a .device .now) .plugged))
+some-is c = let s = c .before .before in
+    run-some (deviceAt (s .args .device .now)) (s .args .request) (s .args .from) (s .pre .1 .first) (deviceAt (s .args .device .now) .plugged) _ (c .none-plugged .ensures)
 
-sub-none-set : tie.Need-sub-none-set
-sub-none-set c = search needs
-
-part-none-set-start : tie.Need-part-none-set-start
-part-none-set-start c = search needs
-
-part-none-set-end : tie.Need-part-none-set-end
-part-none-set-end c = search needs
-
-none-set-requires : tie.Need-none-set-requires
-none-set-requires c κs = search needs
+none-plugged-requires : tie.Need-none-plugged-requires
+none-plugged-requires c κs = search needs
 
 returns : tie.Need-returns
 returns c = rw (← some-is (c .before), c .if1 .taken)
@@ -41,33 +30,19 @@ shared-slice-read-size : tie.Need-shared-slice-read-size
 shared-slice-read-size c = search needs
 
 mul-size : tie.Need-mul-size
-mul-size c = let s = c .before .before .before .before .before .before .before in omega (arith, size-bound (s .args .request .blocks) (getD (s .args .device .now) 0 0) (omega (arith, s .pre .1 .room)) (s .pre .0 .sized .most))
+mul-size c = let s = c .before .before .before .before .before .before in omega (arith, size-bound (s .args .request .blocks) (getD (s .args .device .now) 0 0) (omega (arith, s .pre .1 .room)) (s .pre .0 .sized .most))
 
 add-size : tie.Need-add-size
-add-size c = let s = c .before .before .before .before .before .before .before in omega (arith, c .before .before .plugged-size .ensures .1, size-bound (s .args .request .blocks) (getD (s .args .device .now) 0 0) (omega (arith, s .pre .1 .room)) (s .pre .0 .sized .most))
+add-size c = let s = c .before .before .before .before .before .before in omega (arith, c .before .before .plugged-size .ensures .1, size-bound (s .args .request .blocks) (getD (s .args .device .now) 0 0) (omega (arith, s .pre .1 .room)) (s .pre .0 .sized .most))
 
 shared-slice-read-if2 : tie.Need-shared-slice-read-if2
 shared-slice-read-if2 c = search needs
 
 returns-2 : tie.Need-returns-2
-returns-2 c = rw (← some-is (c .before .before .before .before .before .before), c .before .before .before .before .before .if1 .left, ← c .before .before .before .before .plugged-size .ensures .0, lt-ltb _ _ (c .if2 .taken))
+returns-2 c = let p = c .before .before .before .before in rw (← some-is (p .before .before), p .before .if1 .left, ← p .plugged-size .ensures .0, lt-ltb _ _ (c .if2 .taken))
 
 returns-3 : tie.Need-returns-3
-returns-3 c = rw (← some-is (c .before .before .before .before .before .before), c .before .before .before .before .before .if1 .left, ← c .before .before .before .before .plugged-size .ensures .0, le-ltb _ _ (c .if2 .left))
+returns-3 c = let p = c .before .before .before .before in rw (← some-is (p .before .before), p .before .if1 .left, ← p .plugged-size .ensures .0, le-ltb _ _ (c .if2 .left))
 
 pub plug-answer-spec : {M : Type 1} → statement M
-plug-answer-spec =
-    tie.close
-    (tie.spec
-    sub-none-set
-    part-none-set-start
-    part-none-set-end
-    none-set-requires
-    returns
-    plugged-size-requires
-    shared-slice-read-size
-    mul-size
-    add-size
-    shared-slice-read-if2
-    returns-2
-    returns-3)
+plug-answer-spec = tie.close (tie.spec none-plugged-requires returns plugged-size-requires shared-slice-read-size mul-size add-size shared-slice-read-if2 returns-2 returns-3)

@@ -1,20 +1,23 @@
 -- `device_words::pins::is_pinned` meets its contract. Assumes nothing.
 use mathlib.Core.Path.{sym, _∙_}
-use Rattle.device_words.specs.Device.{pinnedIn}
+use native.Mathlib.Omega.{arith}
+use Rattle.device_words.specs.Device.{isPinned}
+use Rattle.device_words.specs.Words.{deviceAt}
+use Rattle.region_map.proofs.Bools.{never}
+use Rattle.device_words.proofs.DeviceWords.{pins-length}
 use Rattle.device_words.proofs.TableLaws.{past-bit}
 use Rattle.device_words.proofs.WordLaws.{any-one}
 use borrow.Author.Needs.{needs}
 use Rattle.device_words.proofs.pins.is_pinned.Statement.{statement}
 use Rattle.device_words.proofs.pins.is_pinned.Tie as tie
 
-any-pinned-requires : tie.Need-any-pinned-requires
-any-pinned-requires c κs = search needs
-
 returns : tie.Need-returns
-returns c = let a = c .before .before .before .args in c .any-pinned .ensures ∙ any-one (pinnedIn (a .pins .now)) (a .b)
+returns c = let a = c .before .before .before .args in (c .any-pinned .ensures ∙ any-one (isPinned (deviceAt (a .device .now))) (a .b), λ e. c .before .if1 .taken)
 
 returns-2 : tie.Need-returns-2
-returns-2 c = let s = c .before .before in sym (past-bit (s .args .pins .now) (s .args .b) (s .pre) (c .if1 .left))
+returns-2 c = let s = c .before .before in
+    let w = s .args .device .now in
+    (sym (past-bit (deviceAt w .pinned) (s .args .b) (pins-length w (s .pre)) (c .if1 .left)), λ e. absurd (never (sym e)))
 
 pub is-pinned-spec : {M : Type 1} → statement M
-is-pinned-spec = tie.close (tie.spec any-pinned-requires returns returns-2)
+is-pinned-spec = tie.close (tie.spec (λ c κs. search needs) returns returns-2)

@@ -1,10 +1,8 @@
 -- `device_words::rules::device_ok` meets its contract. Assumes nothing.
-use mathlib.Core.Path.{_≡_, sym, _∙_}
-use native.Mathlib.Omega.{arith}
+use mathlib.Core.Path.{sym, _∙_}
 use borrow.Author.Tests.{eq-eqb, ne-eqb}
 use lib.ListN.{length}
 use Rattle.device_words.specs.Device.{deviceOk}
-use Rattle.device_words.proofs.RuleLaws.{setup-ruled}
 use Rattle.device_words.proofs.DeviceWords.{device-at}
 use borrow.Author.Needs.{needs}
 use Rattle.device_words.proofs.rules.device_ok.Statement.{statement}
@@ -29,7 +27,7 @@ setup-ok-requires : tie.Need-setup-ok-requires
 setup-ok-requires c κs = search needs
 
 tables-ok-requires : tie.Need-tables-ok-requires
-tables-ok-requires c κs = let r = setup-ruled _ _ _ _ _ (sym (c .before .setup-ok .ensures) ∙ c .if2 .taken) in (c .before .before .before .before .before .before .before .if1 .taken, omega (arith, r .least, r .usable, r .blocks))
+tables-ok-requires c κs = (c .before .before .before .before .before .before .before .if1 .taken, sym (c .before .setup-ok .ensures) ∙ c .if2 .taken)
 
 returns : tie.Need-returns
 unfolding deviceOk

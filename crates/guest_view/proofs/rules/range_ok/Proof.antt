@@ -39,7 +39,7 @@ returns-5 c =
     simp (le-leb _ _ (c .before .before .before .before .before .before .before .before .before .if1 .left), lt-ltb _ _ (c .before .before .before .before .before .before .before .if2 .left), lt-ltb _ _ h, lt-leb _ _ (c .if5 .taken))
 
 backing-ok-requires : tie.Need-backing-ok-requires
-backing-ok-requires c κs = c .before .before .before .before .offset-in .ensures
+backing-ok-requires c κs = (c .before .before .before .before .offset-in .ensures, c .before .before .if4 .left)
 
 returns-6 : tie.Need-returns-6
 unfolding rangeOk
