@@ -1,12 +1,11 @@
--- From the fresh state on, over any sequence of calls, the plugged blocks are those acknowledged in less those acknowledged out, and the record stays valid. Assumes nothing.
-use mathlib.Core.Path.{_≡_, refl, sym, ap, _∙_}
+-- Over any sequence of host calls and requests the plugged blocks are those of the ledger, and the record stays valid; `virtqueue` states it with the queue's steps and runs. Assumes nothing.
+use mathlib.Core.Path.{_≡_, refl, ap, _∙_}
 use mathlib.Core.Bool.{Bool, true, false, cond, _&&_, not}
 use mathlib.Core.List.{List, [], _∷_}
 use Prim.Native.Nat.{ℕ, _<_}
 use lib.Dec.{eqb}
-use lib.ListN.{getD}
 use Rattle.device_words.specs.Table.{bitAt, within}
-use Rattle.device_words.specs.Device.{MemoryDevice, isPinned, noBlocks, withPlugged, withPins, withPin, fresh, deviceOk}
+use Rattle.device_words.specs.Device.{MemoryDevice, isPinned, noBlocks, withPlugged, withPins, withPin, deviceOk}
 use Rattle.device_words.specs.Request.{requestOf, blockOf, answered, isAck, withRun, acknowledged, changedBy}
 use Rattle.device_words.specs.declared.request.Request.{Request}
 use Rattle.device_words.proofs.TableLaws.{table-bit, zero-bit}
@@ -77,10 +76,6 @@ pub plugged-is : (d : MemoryDevice) (had : ℕ → Bool) (cs : List Call) → ((
 unfolding after ledger
 plugged-is d had [] h b l = h b l
 plugged-is d had (c ∷ cs) h b l = plugged-is (called d c) (ledgerAfter d had c) cs (λ a m. step d had a m (h a m) c) b l
-
--- 'from the fresh state on'
-pub plugged-from-fresh : (d : MemoryDevice) (cs : List Call) (b : ℕ) → b < 1024 → bitAt (after (fresh d) cs .plugged) b ≡ ledger (fresh d) (λ _. false) cs b
-plugged-from-fresh d cs b l = plugged-is (fresh d) (λ _. false) cs (λ a m. zero-bit a) b l
 
 -- and the record stays valid
 valid-after : (d : MemoryDevice) (c : Call) → deviceOk d ≡ true → deviceOk (called d c) ≡ true

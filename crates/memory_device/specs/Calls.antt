@@ -1,4 +1,4 @@
--- Sequences of calls, and the blocks that they acknowledged in and out: 'from the fresh state on these are the blocks acknowledged in less those acknowledged out'. Assumes nothing: these are definitions.
+-- Sequences of host calls and requests, and the blocks that they acknowledged in and out. `virtqueue`'s Calls adds the queue's steps and runs. Assumes nothing: these are definitions.
 use mathlib.Core.Bool.{Bool, true, false, cond, _&&_}
 use mathlib.Core.List.{List, [], _∷_}
 use Prim.Native.Nat.{ℕ}

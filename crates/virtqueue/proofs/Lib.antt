@@ -4,6 +4,7 @@ pub mod Demand3
 pub mod DeviceLaws
 pub mod MadeView
 pub mod MadeWords
+pub mod Plugged
 pub mod QueueLaws
 pub mod ReachedLaws
 pub mod RouteAllLaws

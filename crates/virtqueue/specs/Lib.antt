@@ -7,6 +7,7 @@ pub mod Does
 pub mod Run
 pub mod SecondHalf
 pub mod Unmanaged
+pub mod Calls
 pub mod Causes
 pub mod RouteCauses
 pub mod Contracts
