@@ -9,8 +9,7 @@ use Rattle.device_words.specs.Device.{MemoryDevice, isPinned, noBlocks, withPlu
 use Rattle.device_words.specs.Request.{requestOf, blockOf, answered, isAck, withRun, acknowledged, changedBy}
 use Rattle.device_words.specs.declared.request.Request.{Request}
 use Rattle.device_words.proofs.TableLaws.{table-bit, zero-bit}
-use Rattle.memory_device.specs.Record.{Outcome}
-use Rattle.memory_device.specs.Host.{refusal, done, sizeFault, withRequested, resized, pinFault, pinned, unpinned, wasReset}
+use Rattle.memory_device.specs.Host.{refusal, done, ifOk, sizeFault, withRequested, resized, pinFault, pinned, unpinned, wasReset}
 use Rattle.memory_device.specs.Request.{carriedInto, carried}
 use Rattle.memory_device.specs.Calls.{Call, request, resize, pin, unpin, reset, called, afterAck, ledgerAfter, after, ledger}
 use Rattle.memory_device.proofs.Kept.{reset-kept, pin-kept, unpin-kept, resize-kept, carry-kept}
@@ -35,9 +34,13 @@ acknowledged-bit d r had b l e = go (eqb (r .kind) 0) (eqb (r .kind) 1) (eqb (r 
 
 -- what a refusal or another answer leaves
 module _ (d : MemoryDevice) (had : ℕ → Bool) (b : ℕ) (l : b < 1024) (e : bitAt (d .plugged) b ≡ had b) where
-  chosen : (x : Bool) (a c : Outcome) → bitAt (a .device .plugged) b ≡ had b → bitAt (c .device .plugged) b ≡ had b → bitAt (cond x a c .device .plugged) b ≡ had b
-  chosen true a c f g = f
-  chosen false a c f g = g
+  kept : (fault : Bool) (k : ℕ) (x : MemoryDevice) → bitAt (x .plugged) b ≡ had b → bitAt (ifOk d (cond fault (refusal k d) (done x)) .device .plugged) b ≡ had b
+  kept fault k x f = go (deviceOk d) fault
+    where
+      go : (y z : Bool) → bitAt (cond y (cond z (refusal k d) (done x)) (refusal 27 d) .device .plugged) b ≡ had b
+      go true true = e
+      go true false = f
+      go false z = e
 
   changed : (r : Request) (x : Bool) → bitAt (cond x (withPlugged d (acknowledged d r)) d .plugged) b ≡ cond x (afterAck d r had b) (had b)
   changed r true = acknowledged-bit d r had b l e
@@ -62,13 +65,9 @@ module _ (d : MemoryDevice) (had : ℕ → Bool) (b : ℕ) (l : b < 1024) (e : b
   step : (c : Call) → bitAt (called d c .plugged) b ≡ ledgerAfter d had c b
   unfolding resized pinned unpinned
   step (request s) = step-request s
-  step (resize n) = chosen (deviceOk d) (cond (sizeFault d n) (refusal 14 d) (done (withRequested d n))) (refusal 27 d) (chosen (sizeFault d n) (refusal 14 d) (done (withRequested d n)) e e) e
-  step (pin c) =
-      chosen (deviceOk d) (cond (pinFault d c) (refusal 15 d) (done (withPins d (withPin (d .pinned) c true)))) (refusal 27 d)
-      (chosen (pinFault d c) (refusal 15 d) (done (withPins d (withPin (d .pinned) c true))) e e) e
-  step (unpin c) =
-      chosen (deviceOk d) (cond (not (isPinned d c)) (refusal 15 d) (done (withPins d (withPin (d .pinned) c false)))) (refusal 27 d)
-      (chosen (not (isPinned d c)) (refusal 15 d) (done (withPins d (withPin (d .pinned) c false))) e e) e
+  step (resize n) = kept (sizeFault d n) 14 (withRequested d n) e
+  step (pin c) = kept (pinFault d c) 15 (withPins d (withPin (d .pinned) c true)) e
+  step (unpin c) = kept (not (isPinned d c)) 15 (withPins d (withPin (d .pinned) c false)) e
   step reset = step-reset
 
 -- over any sequence
