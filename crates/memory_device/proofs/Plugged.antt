@@ -1,13 +1,17 @@
 -- Over any sequence of host calls and requests the plugged blocks are those of the ledger, and the record stays valid; `virtqueue` states it with the queue's steps and runs. Assumes nothing.
-use mathlib.Core.Path.{_≡_, refl, ap, _∙_}
-use mathlib.Core.Bool.{Bool, true, false, cond, _&&_, not}
+use mathlib.Core.Path.{_≡_, refl, sym, ap, _∙_}
+use mathlib.Core.Bool.{Bool, true, false, cond, not}
 use mathlib.Core.List.{List, [], _∷_}
 use Prim.Native.Nat.{ℕ, _<_}
-use lib.Dec.{eqb}
+use lib.Dec.{eqb, ltb}
+use Rattle.region_map.proofs.Bools.{never}
+use Rattle.device_words.specs.Bytes.{le, number, responseBytes}
 use Rattle.device_words.specs.Table.{bitAt, within}
-use Rattle.device_words.specs.Device.{MemoryDevice, isPinned, noBlocks, withPlugged, withPins, withPin, deviceOk}
-use Rattle.device_words.specs.Request.{requestOf, blockOf, answered, isAck, withRun, acknowledged, changedBy}
+use Rattle.device_words.specs.Device.{MemoryDevice, isPinned, anyPinned, noBlocks, withPins, withPin, deviceOk}
+use Rattle.device_words.specs.Request.{requestOf, typeOf, stateOf, blockOf, inRange, heldOf, alreadyPlugged, overRequested, plugAnswer, unplugAnswer, unplugAllAnswer, stateAnswer, ranged, answered, withRun, acknowledged, changedBy}
 use Rattle.device_words.specs.declared.request.Request.{Request}
+use Rattle.device_words.specs.declared.request.Response.{Response}
+use Rattle.device_words.specs.declared.request.Response.the-variants.{Ack, Nack, Busy, Error, Plugged, Unplugged, Mixed}
 use Rattle.device_words.proofs.TableLaws.{table-bit, zero-bit}
 use Rattle.memory_device.specs.Host.{refusal, done, ifOk, sizeFault, withRequested, resized, pinFault, pinned, unpinned, wasReset}
 use Rattle.memory_device.specs.Request.{carriedInto, carried}
@@ -32,6 +36,38 @@ acknowledged-bit d r had b l e = go (eqb (r .kind) 0) (eqb (r .kind) 1) (eqb (r 
     go false false true = zero-bit b
     go false false false = e
 
+-- only a STATE is answered with a state, and it takes no block in or out
+abbrev isState : Response → Bool
+isState Ack = false
+isState Nack = false
+isState Busy = false
+isState Error = false
+isState Plugged = true
+isState Unplugged = true
+isState Mixed = true
+
+state-takes-none : (d : MemoryDevice) (r : Request) (had : ℕ → Bool) (b : ℕ) → isState (answered d r) ≡ true → afterAck d r had b ≡ had b
+unfolding answered
+state-takes-none d r had b h = go (eqb (r .kind) 0) (eqb (r .kind) 1) (eqb (r .kind) 2) h
+  where
+    run : Bool → Bool
+    run on = cond (within (blockOf d (r .addr .0)) (r .blocks) b) on (had b)
+
+    none : (i j k : Bool) (y : Response) → isState y ≡ false → isState (cond i (cond j Error (cond k y Ack)) Error) ≡ false
+    none true true k y f = refl
+    none true false true y f = f
+    none true false false y f = refl
+    none false j k y f = refl
+
+    go : (x y z : Bool)
+        → isState (cond x (ranged d r (plugAnswer d r)) (cond y (ranged d r (unplugAnswer d r)) (cond z (unplugAllAnswer d) (cond (eqb (r .kind) 3) (ranged d r (stateAnswer d r)) Error)))) ≡ true
+        → cond x (run true) (cond y (run false) (cond z false (had b))) ≡ had b
+    go true y z h = absurd (never (sym h ∙ none (inRange d r) (alreadyPlugged d r) (overRequested d r) Nack refl))
+    go false true z h =
+        absurd (never (sym h ∙ none (inRange d r) (ltb (heldOf d r (d .plugged)) (r .blocks)) (anyPinned d (blockOf d (r .addr .0)) (r .blocks)) Busy refl))
+    go false false true h = absurd (never (sym h ∙ none true false (anyPinned d 0 1024) Busy refl))
+    go false false false h = refl
+
 -- what a refusal or another answer leaves
 module _ (d : MemoryDevice) (had : ℕ → Bool) (b : ℕ) (l : b < 1024) (e : bitAt (d .plugged) b ≡ had b) where
   kept : (fault : Bool) (k : ℕ) (x : MemoryDevice) → bitAt (x .plugged) b ≡ had b → bitAt (ifOk d (cond fault (refusal k d) (done x)) .device .plugged) b ≡ had b
@@ -42,16 +78,24 @@ module _ (d : MemoryDevice) (had : ℕ → Bool) (b : ℕ) (l : b < 1024) (e : b
       go true false = f
       go false z = e
 
-  changed : (r : Request) (x : Bool) → bitAt (cond x (withPlugged d (acknowledged d r)) d .plugged) b ≡ cond x (afterAck d r had b) (had b)
-  changed r true = acknowledged-bit d r had b l e
-  changed r false = e
+  -- by the answer: a STATE's is an ACK too, and takes no block in or out
+  answer-bit : (r : Request) (x : Response) → (isState x ≡ true → afterAck d r had b ≡ had b)
+      → bitAt (changedBy d r x .plugged) b ≡ cond (eqb (number (responseBytes (typeOf x) (stateOf x)) 0 2) 0) (afterAck d r had b) (had b)
+  unfolding changedBy number responseBytes le
+  answer-bit r Ack f = acknowledged-bit d r had b l e
+  answer-bit r Nack f = e
+  answer-bit r Busy f = e
+  answer-bit r Error f = e
+  answer-bit r Plugged f = e ∙ sym (f refl)
+  answer-bit r Unplugged f = e ∙ sym (f refl)
+  answer-bit r Mixed f = e ∙ sym (f refl)
 
   step-request : (s : List ℕ) → bitAt (carried d s .device .plugged) b ≡ ledgerAfter d had (request s) b
-  unfolding carriedInto changedBy
+  unfolding carriedInto
   step-request s = go (deviceOk d) refl
     where
-      go : (x : Bool) → deviceOk d ≡ x → bitAt (carried d s .device .plugged) b ≡ cond (deviceOk d && isAck (answered d (requestOf s))) (afterAck d (requestOf s) had b) (had b)
-      go true h = rw h (changed (requestOf s) (isAck (answered d (requestOf s))))
+      go : (x : Bool) → deviceOk d ≡ x → bitAt (carried d s .device .plugged) b ≡ ledgerAfter d had (request s) b
+      go true h = rw h (answer-bit (requestOf s) (answered d (requestOf s)) (state-takes-none d (requestOf s) had b))
       go false h = rw h e
 
   step-reset : bitAt (wasReset d .device .plugged) b ≡ ledgerAfter d had reset b

@@ -3,9 +3,11 @@ use mathlib.Core.Bool.{Bool, true, false, cond, _&&_}
 use mathlib.Core.List.{List, [], _∷_}
 use Prim.Native.Nat.{ℕ}
 use lib.Dec.{eqb}
+use Rattle.region_map.specs.Reply.{passes}
+use Rattle.device_words.specs.Bytes.{number}
 use Rattle.device_words.specs.Table.{within}
 use Rattle.device_words.specs.Device.{MemoryDevice, deviceOk}
-use Rattle.device_words.specs.Request.{plug, unplug, unplugAll, requestOf, blockOf, answered, isAck}
+use Rattle.device_words.specs.Request.{Outcome, plug, unplug, unplugAll, requestOf, blockOf}
 use Rattle.device_words.specs.declared.request.Request.{Request}
 use Rattle.memory_device.specs.Host.{resized, pinned, unpinned, wasReset}
 use Rattle.memory_device.specs.Request.{carried}
@@ -26,6 +28,10 @@ called d (pin b) = pinned d b .device
 called d (unpin b) = unpinned d b .device
 called d reset = wasReset d .device
 
+-- the response says ACK, 0, in its first two bytes; a refusal (27) says nothing
+abbrev pub acknowledges : Outcome → Bool
+acknowledges o = passes (o .reply) && eqb (number (o .response) 0 2) 0
+
 -- the blocks held after an acknowledged request, where `had` were held before
 abbrev pub afterAck : MemoryDevice → Request → (ℕ → Bool) → ℕ → Bool
 afterAck d r had b =
@@ -34,7 +40,7 @@ afterAck d r had b =
 
 -- the blocks acknowledged in less those acknowledged out, one call further; a system reset gives all back
 abbrev pub ledgerAfter : MemoryDevice → (ℕ → Bool) → Call → ℕ → Bool
-ledgerAfter d had (request s) b = cond (deviceOk d && isAck (answered d (requestOf s))) (afterAck d (requestOf s) had b) (had b)
+ledgerAfter d had (request s) b = cond (acknowledges (carried d s)) (afterAck d (requestOf s) had b) (had b)
 ledgerAfter d had (resize n) b = had b
 ledgerAfter d had (pin c) b = had b
 ledgerAfter d had (unpin c) b = had b
