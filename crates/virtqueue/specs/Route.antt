@@ -90,6 +90,10 @@ answersTo f accesses i zero = []
 answersTo f accesses i (suc n) =
     answerWords (f (getD accesses (2 * i) 0) (getD accesses (2 * i + 1) 0)) ++ answersTo f accesses (suc i) n
 
+-- all of them
+abbrev pub answersOf : (ℕ → ℕ → Routed) → List ℕ → List ℕ
+answersOf f accesses = answersTo f accesses 0 (length accesses / 2)
+
 -- four words for each two
 abbrev pub answersFit : List ℕ → List ℕ → Bool
 answersFit accesses answers = eqb (length accesses % 2) 0 && eqb (length answers) (2 * length accesses)
@@ -102,7 +106,7 @@ pub record RoutedAll : Type 0 where
 unfoldable pub allRouted : Bool → (ℕ → ℕ → Routed) → List ℕ → List ℕ → RoutedAll
 allRouted ok f accesses answers =
     cond (ok && answersFit accesses answers)
-    (record { number = 0; answers = answersTo f accesses 0 (length accesses / 2) })
+    (record { number = 0; answers = answersOf f accesses })
     (record { number = 27; answers = answers })
 
 abbrev pub allWith : FlatView → ℕ → MemoryDevice → List ℕ → List ℕ → RoutedAll

@@ -2,7 +2,7 @@
 ghost use mathlib.Core.Path.{_≡_};
 ghost use mathlib.Core.Bool.{true};
 ghost use mathlib.Core.List.{[], _∷_};
-ghost use Prim.Native.Nat.{_+_, _*_, _/_, _≤_, _<_};
+ghost use Prim.Native.Nat.{_+_, _*_, _≤_, _<_};
 ghost use lib.ListN.{length};
 ghost use lib.Seq.{sets};
 ghost use Rattle.region_map.specs.Reply.{numberOf};
@@ -11,7 +11,8 @@ ghost use Rattle.device_words.specs.Device.{pluggedIn};
 ghost use Rattle.device_words.specs.Words.{deviceOf};
 ghost use Rattle.map_records.specs.Words.{viewOf};
 ghost use Rattle.guest_view.specs.Contracts.{Judged, Spot};
-ghost use Rattle.virtqueue.specs.Route.{widthOk, routedBy, routedWith, routedWithout, routeReply, answerWords, answersTo, answersFit, allWith, allWithout, RoutesAll};
+ghost use Rattle.virtqueue.specs.Route.{widthOk, routedBy, routedWith, routedWithout, routeReply};
+ghost use Rattle.virtqueue.specs.Route.{answerWords, answersOf, answersFit, allWith, allWithout, RoutesAll};
 ghost use Rattle.virtqueue.specs.Contracts.{isWhole, routedIn};
 use crate::view::NO_REGION;
 use device_words::rules::device_ok;
@@ -224,7 +225,7 @@ fn routes_judged(view: &[u64], block: u64, plugged: &[u64], accesses: &[u64], an
     requires { ⌜ (8 ≤ block) × (length (now plugged) ≡ 16) ⌝ }
     requires { ⌜ answersFit (now accesses) (now answers) ≡ true ⌝ }
     ensures { λ _. ⌜ now (answers .exit)
-        ≡ answersTo (routedIn (now (view .entry)) block (now (plugged .entry))) (now (accesses .entry)) 0 (length (now (accesses .entry)) / 2) ⌝ }
+        ≡ answersOf (routedIn (now (view .entry)) block (now (plugged .entry))) (now (accesses .entry)) ⌝ }
 {
     let count = accesses.len() / 2;
     let mut at: usize = 0;
@@ -255,7 +256,8 @@ pub fn route_all(
     answers: &mut [u64],
 ) -> u64
     ensures { λ r. ⌜ RoutesAll
-        (allWith (viewOf (now (view .entry))) «memory_length» (deviceOf (now (device .entry))) (now (accesses .entry)) (now (answers .entry)))
+        (allWith (viewOf (now (view .entry))) «memory_length» (deviceOf (now (device .entry)))
+        (now (accesses .entry)) (now (answers .entry)))
         r (now (answers .exit)) ⌝ }
 {
     if device_ok(device) {
