@@ -5,7 +5,7 @@ use mathlib.Core.List.{List, [], _∷_}
 use Prim.Native.Nat.{ℕ, _<_}
 use lib.Dec.{eqb, ltb}
 use Rattle.region_map.proofs.Bools.{never}
-use Rattle.device_words.specs.Bytes.{le, number, responseBytes}
+use Rattle.device_words.specs.Bytes.{le, number, numberBy, responseBytes}
 use Rattle.device_words.specs.Table.{bitAt, within}
 use Rattle.device_words.specs.Device.{MemoryDevice, isPinned, anyPinned, noBlocks, withPins, withPin, deviceOk}
 use Rattle.device_words.specs.Request.{requestOf, typeOf, stateOf, blockOf, inRange, heldOf, alreadyPlugged, overRequested, plugAnswer, unplugAnswer, unplugAllAnswer, stateAnswer, ranged, answered, withRun, acknowledged, changedBy}
@@ -81,7 +81,7 @@ module _ (d : MemoryDevice) (had : ℕ → Bool) (b : ℕ) (l : b < 1024) (e : b
   -- by the answer: a STATE's is an ACK too, and takes no block in or out
   answer-bit : (r : Request) (x : Response) → (isState x ≡ true → afterAck d r had b ≡ had b)
       → bitAt (changedBy d r x .plugged) b ≡ cond (eqb (number (responseBytes (typeOf x) (stateOf x)) 0 2) 0) (afterAck d r had b) (had b)
-  unfolding changedBy number responseBytes le
+  unfolding changedBy numberBy responseBytes le
   answer-bit r Ack f = acknowledged-bit d r had b l e
   answer-bit r Nack f = e
   answer-bit r Busy f = e

@@ -3,7 +3,7 @@ use mathlib.Core.Path.{_≡_, refl, sym, ap, _∙_}
 use mathlib.Core.Bool.{Bool, true, false, cond, _&&_, _||_}
 use mathlib.Core.List.{List, [], _∷_}
 use Prim.Native.Nat.{ℕ, zero, suc, _+_, _<_, min}
-use lib.Dec.{eqb, ltb}
+use lib.Dec.{eqb}
 use lib.ListN.{length}
 use Rattle.map_records.specs.declared.view.FlatView.{FlatView}
 use Rattle.region_map.proofs.Bools.{never, and-fst, and-snd}
@@ -11,71 +11,55 @@ use Rattle.device_words.specs.Table.{bitAt}
 use Rattle.device_words.specs.Device.{MemoryDevice, fresh, deviceOk}
 use Rattle.device_words.specs.Request.{requestOf, carriedOut, Outcome}
 use Rattle.device_words.proofs.TableLaws.{zero-bit}
-use Rattle.guest_view.specs.Guest.{Guest, allReach, numberAt, byView}
+use Rattle.guest_view.specs.Guest.{Guest, byView}
 use Rattle.guest_view.specs.View.{viewOk}
 use Rattle.memory_device.specs.Request.{carriedInto, carried}
 use Rattle.memory_device.specs.Calls as device
 use Rattle.memory_device.proofs.Plugged as device-laws
-use Rattle.virtqueue.specs.Queue.{queueOk, ringEntry}
-use Rattle.virtqueue.specs.Chain.{Chain, ended, shapeOf}
-use Rattle.virtqueue.specs.Step.{Offer, stop, idle, ready, noticesOf, headOf, chainOf, usedReached, offerChain, offerHead, offerNotices, offered, headChain, noticesChain, comesTo, requestBytes, responsePlaces, usedPlaces, usedBytes, carrying, servedMemory, Effect, finished, unmoved, steppedBy, recordsOk, stepped}
-use Rattle.virtqueue.specs.Run.{RunEffect, goesOn, singleSteps, ran}
+use Rattle.virtqueue.specs.Queue.{queueOk}
+use Rattle.virtqueue.specs.Chain.{Chain, shapeOf}
+use Rattle.virtqueue.specs.Step.{Answer, refused, idle, served, Way, halted, quiet, along, wayOf, chainIn, comesTo, entry, Offer, stop, nothing, ready, usedReached, offerChain, offerOf, offered, requestBytes, responsePlaces, usedPlaces, usedBytes, carrying, servedMemory, Effect, finished, unmoved, steppedBy, recordsOk, stepped}
+use Rattle.virtqueue.specs.Run.{goesOn, stepsBy, ran}
 use Rattle.virtqueue.specs.Calls.{Call, host, step, run, called, isServed, requestRead, requestsIn, askedBy, after, ledger, CarriesOut}
 use Rattle.virtqueue.specs.declared.queue.SplitQueue.{SplitQueue}
-use Rattle.virtqueue.specs.declared.take.AvailableNotices.{AvailableNotices}
-use Rattle.virtqueue.specs.declared.take.AvailableNotices.the-variants as notices
-use Rattle.virtqueue.specs.declared.take.HeadEntry.{HeadEntry}
-use Rattle.virtqueue.specs.declared.take.HeadEntry.the-variants as head
-use Rattle.virtqueue.specs.declared.step.StepOutcome.{StepOutcome}
-use Rattle.virtqueue.specs.declared.step.StepOutcome.the-variants.{Refused, Idle, Served}
-use Rattle.virtqueue.proofs.RunSteps.{run-is-steps}
+use Rattle.virtqueue.proofs.WayLaws.{way-along}
 
 -- the head and the chain of an offer are those that the step comes to
 abbrev OfferOf : Guest → List ℕ → SplitQueue → Chain → Offer → Type 0
 OfferOf g memory q c (stop k) = Unit {0}
-OfferOf g memory q c idle = Unit {0}
-OfferOf g memory q c (ready h notify x) = (h ≡ numberAt (g .place) memory (ringEntry q) 2) × (x ≡ c)
+OfferOf g memory q c nothing = Unit {0}
+OfferOf g memory q c (ready h notify x) = (h ≡ entry g memory q) × (x ≡ c)
 
 offer-of : (g : Guest) (memory : List ℕ) (q : SplitQueue) → OfferOf g memory q (comesTo g memory q) (offered g memory q)
-unfolding offered comesTo offerChain headOf
-offer-of g memory q = go (eqb (q .stop) 0) (noticesOf g memory q)
+unfolding offerChain
+offer-of g memory q = go (wayOf g memory q) refl
   where
-    at : ℕ
-    at = numberAt (g .place) memory (ringEntry q) 2
+    by-chain : (h : ℕ) (n : Bool) (c : Chain) → h ≡ entry g memory q → (x y : Bool) → OfferOf g memory q c (cond x (cond y (ready h n c) (stop 17)) (stop (shapeOf c)))
+    by-chain h n c e true true = (e, refl)
+    by-chain h n c e true false = tt
+    by-chain h n c e false y = tt
 
-    by-chain : (n x y : Bool) → OfferOf g memory q (chainOf g memory q at) (cond x (cond y (ready at n (chainOf g memory q at)) (stop 17)) (stop (shapeOf (chainOf g memory q at))))
-    by-chain n true true = (refl, refl)
-    by-chain n true false = tt
-    by-chain n false y = tt
-
-    by-head : (n x y : Bool) → OfferOf g memory q (headChain g memory q (cond x (cond y (head.At at) (head.Stop 19)) (head.Stop 17)))
-        (offerHead g memory q n (cond x (cond y (head.At at) (head.Stop 19)) (head.Stop 17)))
-    by-head n true true = by-chain n (eqb (shapeOf (chainOf g memory q at)) 0) (usedReached g q)
-    by-head n true false = tt
-    by-head n false y = tt
-
-    go : (x : Bool) (n : AvailableNotices) → OfferOf g memory q (cond x (noticesChain g memory q n) (ended (q .stop))) (cond x (offerNotices g memory q n) (stop (q .stop)))
-    go true (notices.Stop k) = tt
-    go true notices.Idle = tt
-    go true (notices.Offered n) = by-head n (allReach (g .reach) (ringEntry q) 2) (ltb at (q .size))
-    go false n = tt
+    go : (w : Way) → wayOf g memory q ≡ w → OfferOf g memory q (chainIn w) (offerOf g q w)
+    go (halted k) e = tt
+    go quiet e = tt
+    go (along h n c) e = by-chain h n c (way-along g memory q h n c e .head) (eqb (shapeOf c) 0) (usedReached g q)
 
 -- what a served step leaves, by the chain that it came to
 module _ (g : Guest) (d : MemoryDevice) (q : SplitQueue) (memory : List ℕ) (c : Chain) where
-  finish-carries : (o : Offer) → OfferOf g memory q c o → isServed (finished g d q memory o .result .outcome) ≡ true
-      → (finished g d q memory o .result .device ≡ carrying d (requestBytes (g .place) memory c) .device)
+  finish-carries : (o : Offer) → OfferOf g memory q c o → isServed (finished g d q memory o .answer) ≡ true
+      → (finished g d q memory o .device ≡ carrying d (requestBytes (g .place) memory c) .device)
       × (finished g d q memory o .memory
-      ≡ servedMemory memory (responsePlaces (g .place) c) (carrying d (requestBytes (g .place) memory c) .response) (usedPlaces (g .place) q) (usedBytes (q .«next_used») (numberAt (g .place) memory (ringEntry q) 2)))
+      ≡ servedMemory memory (responsePlaces (g .place) c) (carrying d (requestBytes (g .place) memory c) .response) (usedPlaces (g .place) q) (usedBytes (q .«next_used») (entry g memory q)))
   finish-carries (stop k) p e = absurd (never (sym e))
-  finish-carries idle p e = absurd (never (sym e))
+  finish-carries nothing p e = absurd (never (sym e))
   finish-carries (ready h n x) p e = (
     λ i. carrying d (requestBytes (g .place) memory (p .1 i)) .device,
     λ i. servedMemory memory (responsePlaces (g .place) (p .1 i)) (carrying d (requestBytes (g .place) memory (p .1 i)) .response) (usedPlaces (g .place) q) (usedBytes (q .«next_used») (p .0 i)),
   )
 
-  finish-keeps : (o : Offer) → isServed (finished g d q memory o .result .outcome) ≡ false → finished g d q memory o .result .device ≡ d
+  finish-keeps : (o : Offer) → isServed (finished g d q memory o .answer) ≡ false → finished g d q memory o .device ≡ d
   finish-keeps (stop k) e = refl
-  finish-keeps idle e = refl
+  finish-keeps nothing e = refl
   finish-keeps (ready h n x) e = absurd (never e)
 
 device-ok : (v : FlatView) (d : MemoryDevice) (q : SplitQueue) (n : ℕ) → recordsOk v d q n ≡ true → deviceOk d ≡ true
@@ -89,7 +73,7 @@ through d s h = rw h
 
 module _ (v : FlatView) (d : MemoryDevice) (q : SplitQueue) (memory : List ℕ) where
   -- 'carried out as the request': through the public definition with 27
-  pub served-carries : isServed (stepped v d q memory .result .outcome) ≡ true → CarriesOut v d q memory
+  pub served-carries : isServed (stepped v d q memory .answer) ≡ true → CarriesOut v d q memory
   unfolding stepped steppedBy carrying
   served-carries e = go (recordsOk v d q (length memory)) refl
     where
@@ -97,59 +81,59 @@ module _ (v : FlatView) (d : MemoryDevice) (q : SplitQueue) (memory : List ℕ) 
       go true r =
           let g = byView v d in
           let is : stepped v d q memory ≡ finished g d q memory (offered g memory q) = rw r in
-          let k = finish-carries g d q memory (comesTo g memory q) (offered g memory q) (offer-of g memory q) (ap (λ (f : Effect). isServed (f .result .outcome)) (sym is) ∙ e) in
+          let k = finish-carries g d q memory (comesTo g memory q) (offered g memory q) (offer-of g memory q) (ap (λ (f : Effect MemoryDevice). isServed (f .answer)) (sym is) ∙ e) in
           let o = through d (requestRead v d q memory) (device-ok v d q (length memory) r) in
           record {
             reply = ap (λ (x : Outcome). x .reply) o;
-            device = ap (λ (f : Effect). f .result .device) is ∙ k .0 ∙ sym (ap (λ (x : Outcome). x .device) o);
-            left = ap (λ (f : Effect). f .memory) is ∙ k .1
-                ∙ ap (λ (x : Outcome). servedMemory memory (responsePlaces (g .place) (comesTo g memory q)) (x .response) (usedPlaces (g .place) q) (usedBytes (q .«next_used») (numberAt (g .place) memory (ringEntry q) 2))) (sym o);
+            device = ap (λ (f : Effect MemoryDevice). f .device) is ∙ k .0 ∙ sym (ap (λ (x : Outcome). x .device) o);
+            left = ap (λ (f : Effect MemoryDevice). f .memory) is ∙ k .1
+                ∙ ap (λ (x : Outcome). servedMemory memory (responsePlaces (g .place) (comesTo g memory q)) (x .response) (usedPlaces (g .place) q) (usedBytes (q .«next_used») (entry g memory q))) (sym o);
           }
       go false r =
-          let is : stepped v d q memory ≡ unmoved (Refused 27) d q memory = rw r in
-          absurd (never (sym e ∙ ap (λ (f : Effect). isServed (f .result .outcome)) is))
+          let is : stepped v d q memory ≡ unmoved (refused 27) d q memory = rw r in
+          absurd (never (sym e ∙ ap (λ (f : Effect MemoryDevice). isServed (f .answer)) is))
 
   -- any other step leaves the device as it was
-  pub unserved-keeps : isServed (stepped v d q memory .result .outcome) ≡ false → stepped v d q memory .result .device ≡ d
+  pub unserved-keeps : isServed (stepped v d q memory .answer) ≡ false → stepped v d q memory .device ≡ d
   unfolding stepped steppedBy
   unserved-keeps e = go (recordsOk v d q (length memory)) refl
     where
-      go : (x : Bool) → recordsOk v d q (length memory) ≡ x → stepped v d q memory .result .device ≡ d
+      go : (x : Bool) → recordsOk v d q (length memory) ≡ x → stepped v d q memory .device ≡ d
       go true r =
           let g = byView v d in
           let is : stepped v d q memory ≡ finished g d q memory (offered g memory q) = rw r in
-          ap (λ (f : Effect). f .result .device) is
-          ∙ finish-keeps g d q memory (comesTo g memory q) (offered g memory q) (ap (λ (f : Effect). isServed (f .result .outcome)) (sym is) ∙ e)
+          ap (λ (f : Effect MemoryDevice). f .device) is
+          ∙ finish-keeps g d q memory (comesTo g memory q) (offered g memory q) (ap (λ (f : Effect MemoryDevice). isServed (f .answer)) (sym is) ∙ e)
       go false r = rw r
 
   -- the state after a step, by what it asks
-  step-asks : stepped v d q memory .result .device ≡ device.after d (requestsIn v 1 d q memory)
+  step-asks : stepped v d q memory .device ≡ device.after d (requestsIn v 1 d q memory)
   unfolding requestsIn device.after
-  step-asks = go (isServed (stepped v d q memory .result .outcome)) refl
+  step-asks = go (isServed (stepped v d q memory .answer)) refl
     where
-      go : (x : Bool) → isServed (stepped v d q memory .result .outcome) ≡ x → stepped v d q memory .result .device ≡ device.after d (cond x (device.request (requestRead v d q memory) ∷ []) [])
+      go : (x : Bool) → isServed (stepped v d q memory .answer) ≡ x → stepped v d q memory .device ≡ device.after d (cond x (device.request (requestRead v d q memory) ∷ []) [])
       go true e = served-carries e .device
       go false e = unserved-keeps e
 
 module _ (v : FlatView) where
   -- single steps, by the requests that they carry out
-  singles-ask : (k served : ℕ) (notified : Bool) (d : MemoryDevice) (q : SplitQueue) (memory : List ℕ)
-      → singleSteps v k served notified d q memory .device ≡ device.after d (requestsIn v k d q memory)
-  unfolding singleSteps requestsIn device.after
-  singles-ask zero served notified d q memory = refl
-  singles-ask (suc k) served notified d q memory =
-      go (stepped v d q memory .result .outcome) refl
-      (λ b. singles-ask k (served + 1) (notified || b) (stepped v d q memory .result .device) (stepped v d q memory .result .queue) (stepped v d q memory .memory))
+  singles-ask : (k count : ℕ) (notified : Bool) (d : MemoryDevice) (q : SplitQueue) (memory : List ℕ)
+      → stepsBy (stepped v) k count notified d q memory .device ≡ device.after d (requestsIn v k d q memory)
+  unfolding stepsBy requestsIn device.after
+  singles-ask zero count notified d q memory = refl
+  singles-ask (suc k) count notified d q memory =
+      go (stepped v d q memory .answer) refl
+      (λ b. singles-ask k (count + 1) (notified || b) (stepped v d q memory .device) (stepped v d q memory .queue) (stepped v d q memory .memory))
     where
       rest : List device.Call
-      rest = requestsIn v k (stepped v d q memory .result .device) (stepped v d q memory .result .queue) (stepped v d q memory .memory)
+      rest = requestsIn v k (stepped v d q memory .device) (stepped v d q memory .queue) (stepped v d q memory .memory)
 
-      go : (x : StepOutcome) → stepped v d q memory .result .outcome ≡ x
-          → ((b : Bool) → goesOn served notified (singleSteps v k) (stepped v d q memory) (Served b) .device ≡ device.after (stepped v d q memory .result .device) rest)
-          → goesOn served notified (singleSteps v k) (stepped v d q memory) x .device ≡ device.after d (cond (isServed x) (device.request (requestRead v d q memory) ∷ rest) [])
-      go (Refused n) e f = unserved-keeps v d q memory (ap isServed e)
-      go Idle e f = unserved-keeps v d q memory (ap isServed e)
-      go (Served b) e f = f b ∙ ap (λ (x : MemoryDevice). device.after x rest) (served-carries v d q memory (ap isServed e) .device)
+      go : (x : Answer) → stepped v d q memory .answer ≡ x
+          → ((b : Bool) → goesOn count notified (stepsBy (stepped v) k) (stepped v d q memory) (served b) .device ≡ device.after (stepped v d q memory .device) rest)
+          → goesOn count notified (stepsBy (stepped v) k) (stepped v d q memory) x .device ≡ device.after d (cond (isServed x) (device.request (requestRead v d q memory) ∷ rest) [])
+      go (refused n) e f = unserved-keeps v d q memory (ap isServed e)
+      go idle e f = unserved-keeps v d q memory (ap isServed e)
+      go (served b) e f = f b ∙ ap (λ (x : MemoryDevice). device.after x rest) (served-carries v d q memory (ap isServed e) .device)
 
   -- with records that 27 refuses there are none
   none-asked : (k : ℕ) (d : MemoryDevice) (q : SplitQueue) (memory : List ℕ) → recordsOk v d q (length memory) ≡ false → requestsIn v k d q memory ≡ []
@@ -162,7 +146,7 @@ module _ (v : FlatView) where
   run-asks d q memory k = go (recordsOk v d q (length memory)) refl
     where
       go : (x : Bool) → recordsOk v d q (length memory) ≡ x → ran v d q memory k .device ≡ device.after d (requestsIn v (min k 256) d q memory)
-      go true r = rw r (ap (λ (e : RunEffect). e .device) (run-is-steps v (min k 256) 0 false d q memory r) ∙ singles-ask (min k 256) 0 false d q memory)
+      go true r = rw r (singles-ask (min k 256) 0 false d q memory)
       go false r = rw (r, none-asked (min k 256) d q memory r)
 
 -- the state after a call is that after what it asks of the device

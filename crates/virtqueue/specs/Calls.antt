@@ -6,15 +6,12 @@ use Prim.Native.Nat.{ℕ, zero, suc, min}
 use Rattle.map_records.specs.declared.view.FlatView.{FlatView}
 use Rattle.region_map.specs.Reply.{accepted}
 use Rattle.device_words.specs.Device.{MemoryDevice}
-use Rattle.guest_view.specs.Guest.{byView, numberAt}
+use Rattle.guest_view.specs.Guest.{byView}
 use Rattle.memory_device.specs.Request.{carried}
 use Rattle.memory_device.specs.Calls as device
-use Rattle.virtqueue.specs.Queue.{ringEntry}
-use Rattle.virtqueue.specs.Step.{requestBytes, responsePlaces, usedPlaces, usedBytes, servedMemory, stepped, comesTo}
+use Rattle.virtqueue.specs.Step.{Answer, refused, idle, served, entry, comesTo, requestBytes, responsePlaces, usedPlaces, usedBytes, servedMemory, stepped}
 use Rattle.virtqueue.specs.Run.{ran}
 use Rattle.virtqueue.specs.declared.queue.SplitQueue.{SplitQueue}
-use Rattle.virtqueue.specs.declared.step.StepOutcome.{StepOutcome}
-use Rattle.virtqueue.specs.declared.step.StepOutcome.the-variants.{Refused, Idle, Served}
 
 -- a call of the host or a request handed over by itself; a step; a run. Each step and run has its own view, queue record and memory: between calls the guest writes what it likes
 pub data Call : Type 0 where
@@ -25,14 +22,14 @@ pub data Call : Type 0 where
 -- the state after a call
 abbrev pub called : MemoryDevice → Call → MemoryDevice
 called d (host c) = device.called d c
-called d (step v q memory) = stepped v d q memory .result .device
+called d (step v q memory) = stepped v d q memory .device
 called d (run v q memory k) = ran v d q memory k .device
 
 -- 'served when neither a number nor idle ends it'
-abbrev pub isServed : StepOutcome → Bool
-isServed (Refused k) = false
-isServed Idle = false
-isServed (Served notify) = true
+abbrev pub isServed : Answer → Bool
+isServed (refused k) = false
+isServed idle = false
+isServed (served notify) = true
 
 -- the request of a step: 'the first 24 readable bytes' of the chain that it goes along
 abbrev pub requestRead : FlatView → MemoryDevice → SplitQueue → List ℕ → List ℕ
@@ -42,9 +39,9 @@ requestRead v d q memory = requestBytes (byView v d .place) memory (comesTo (byV
 unfoldable pub requestsIn : FlatView → ℕ → MemoryDevice → SplitQueue → List ℕ → List device.Call
 requestsIn v zero d q memory = []
 requestsIn v (suc k) d q memory =
-    cond (isServed (stepped v d q memory .result .outcome))
+    cond (isServed (stepped v d q memory .answer))
     (device.request (requestRead v d q memory)
-    ∷ requestsIn v k (stepped v d q memory .result .device) (stepped v d q memory .result .queue) (stepped v d q memory .memory))
+    ∷ requestsIn v k (stepped v d q memory .device) (stepped v d q memory .queue) (stepped v d q memory .memory))
     []
 
 -- what a call asks of the device: itself, or the requests that a step or a run carries out, one after the other
@@ -65,7 +62,7 @@ ledger d had (c ∷ cs) = ledger (called d c) (device.ledger d had (askedBy d c)
 -- A step carries its request out: 27 lets the device pass, the next state is the one that the request gives, and its ten bytes are the response that is written.
 pub record CarriesOut (v : FlatView) (d : MemoryDevice) (q : SplitQueue) (memory : List ℕ) : Type 0 where
   pub reply : carried d (requestRead v d q memory) .reply ≡ accepted
-  pub device : stepped v d q memory .result .device ≡ carried d (requestRead v d q memory) .device
+  pub device : stepped v d q memory .device ≡ carried d (requestRead v d q memory) .device
   pub left : stepped v d q memory .memory
       ≡ servedMemory memory (responsePlaces (byView v d .place) (comesTo (byView v d) memory q)) (carried d (requestRead v d q memory) .response)
-      (usedPlaces (byView v d .place) q) (usedBytes (q .«next_used») (numberAt (byView v d .place) memory (ringEntry q) 2))
+      (usedPlaces (byView v d .place) q) (usedBytes (q .«next_used») (entry (byView v d) memory q))

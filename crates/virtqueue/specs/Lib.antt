@@ -11,6 +11,4 @@ pub mod Calls
 pub mod Causes
 pub mod RouteCauses
 pub mod Contracts
-pub mod ByValue
-pub mod Thin
 pub mod Worked

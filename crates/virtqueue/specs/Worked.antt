@@ -12,11 +12,8 @@ use Rattle.device_words.specs.Request.{Outcome}
 use Rattle.memory_device.specs.Request.{carried}
 use Rattle.memory_device.specs.SetUp.{valued}
 use Rattle.memory_device.specs.Calls as device
-use Rattle.virtqueue.specs.Run.{ran}
+use Rattle.virtqueue.specs.Run.{End, refusedBy, idle, RunEffect, ran}
 use Rattle.virtqueue.specs.declared.queue.SplitQueue.{SplitQueue}
-use Rattle.virtqueue.specs.declared.run.Ran.{Ran}
-use Rattle.virtqueue.specs.declared.run.RunEnd.{RunEnd}
-use Rattle.virtqueue.specs.declared.run.RunEnd.the-variants.{Refused, Idle}
 
 -- the 24 bytes of a request, after some calls on the device that was set up; or a queue of so many entries, by the count seen and the available idx
 pub data Question : Type 0 where
@@ -27,7 +24,7 @@ pub data Question : Type 0 where
 pub data Answer : Type 0 where
   response : List ℕ → Answer
   refused : ℕ → Answer
-  served : ℕ → RunEnd → Answer
+  served : ℕ → End → Answer
 
 pub record Row : Type 0 where
   pub question : Question
@@ -89,9 +86,9 @@ rows =
     ∷ row (request twoPlugged (state 0x10000 3)) (ten 0 2)
     ∷ row (request onePinned (unplug 0x10000 2)) busy
     ∷ row (request onePinned (unplug 0x10000 3)) error
-    ∷ row (ring 4 0 5) (served 0 (Refused 18))
-    ∷ row (ring 4 0 4) (served 4 Idle)
-    ∷ row (ring 4 65535 1) (served 2 Idle)
+    ∷ row (ring 4 0 5) (served 0 (refusedBy 18))
+    ∷ row (ring 4 0 4) (served 4 idle)
+    ∷ row (ring 4 65535 1) (served 2 idle)
     ∷ []
 
 -- 'Block 4,096, addr 0x10000, region 8 blocks, usable 6, requested 4', set up over a region of that size
@@ -114,10 +111,10 @@ memory idx =
 abbrev pub carriedAs : Outcome → Answer
 carriedAs o = cond (passes (o .reply)) (response (o .response)) (refused (numberOf (o .reply)))
 
-abbrev pub ranAs : Ran → Answer
+abbrev pub ranAs : RunEffect → Answer
 ranAs r = served (r .served) (r .end)
 
 -- what the definitions answer; a queue is run to its end
 unfoldable pub answerTo : Question → Answer
 answerTo (request before bytes) = carriedAs (carried (device.after device₀ before) bytes)
-answerTo (ring n seen idx) = ranAs (ran view device₀ (queue n seen) (memory idx) 256 .result)
+answerTo (ring n seen idx) = ranAs (ran view device₀ (queue n seen) (memory idx) 256)
