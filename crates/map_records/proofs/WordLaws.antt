@@ -5,12 +5,12 @@ use mathlib.Core.List.{List, [], _∷_, append-nil}
 use Prim.Native.Nat.{ℕ, zero, suc, _+_, _*_, _≤_, _<_}
 use native.Mathlib.Nat.{add-zero}
 use native.Mathlib.Omega.{arith}
-use lib.ListN.{length, set, take, drop, getD, replicate, length-replicate, length-set, drop-of-length-le}
+use lib.ListN.{length, set, getD, replicate, length-replicate, length-set, drop-of-length-le}
 use lib.Seq.{sets, drop-cons, length-sets, getD-set-same, getD-set-other}
 use borrow.Author.Tests.{eq-eqb, ne-eqb}
 use Rattle.map_records.specs.Map.{noRegion, region, emptyMap}
 use Rattle.map_records.specs.View.{noRange, rangeOf}
-use Rattle.map_records.specs.Words.{regionAt, regionsAt, mapOf, regionWords, regionsWords, mapWords, rangeAt, rangesAt, noView, viewOf, rangeWords, rangesWords, viewWords}
+use Rattle.map_records.specs.Words.{eachAt, eachWords, regionAt, mapOf, regionWords, mapWords, rangeAt, noView, viewOf, rangeWords, viewWords}
 use Rattle.map_records.specs.declared.map.Region.{Region}
 use Rattle.map_records.specs.declared.map.RegionMap.{RegionMap}
 use Rattle.map_records.specs.declared.view.FlatRange.{FlatRange}
@@ -24,30 +24,21 @@ abbrev listed : List ℕ → ℕ → ℕ → ℕ → List ℕ
 listed w at j zero = []
 listed w at j (suc n) = getD w (at + j) 0 ∷ listed w at (suc j) n
 
-listed-take : (w : List ℕ) (at j n : ℕ) → at + j + n ≤ length w → listed w at j n ≡ take n (drop (at + j) w)
-listed-take w at j zero h = refl
-listed-take w at j (suc n) h =
-    let e : at + suc j ≡ suc (at + j) = omega arith in
-    rw (drop-cons w (at + j) 0 (omega arith)) (ap (λ (l : List ℕ). getD w (at + j) 0 ∷ l) (listed-take w at (suc j) n (omega arith) ∙ ap (λ (i : ℕ). take n (drop i w)) e))
+listed-at : (w : List ℕ) (at j n i : ℕ) → i < n → getD (listed w at j n) i 0 ≡ getD w (at + (j + i)) 0
+listed-at w at j zero i h = absurd (omega arith)
+listed-at w at j (suc n) zero h = let e : at + j ≡ at + (j + 0) = omega arith in ap (λ (k : ℕ). getD w k 0) e
+listed-at w at j (suc n) (suc i) h =
+    let e : at + (suc j + i) ≡ at + (j + suc i) = omega arith in
+    listed-at w at (suc j) n i (omega arith) ∙ ap (λ (k : ℕ). getD w k 0) e
 
 first-word : (w : List ℕ) (at : ℕ) → getD w at 0 ≡ getD w (at + 0) 0
 first-word w at = ap (λ (k : ℕ). getD w k 0) (sym (add-zero at))
 
--- ---- regions are groups of nine words
-region-same : (w v : List ℕ) (at : ℕ) → ((j : ℕ) → j < 9 → getD w (at + j) 0 ≡ getD v (at + j) 0) → regionAt w at ≡ regionAt v at
-region-same w v at h = λ i.
-    record {
-      kind = (first-word w at ∙ h 0 (omega arith) ∙ sym (first-word v at)) i;
-      parent = h 1 (omega arith) i;
-      offset = h 2 (omega arith) i;
-      size = h 3 (omega arith) i;
-      priority = h 4 (omega arith) i;
-      «memory_start» = h 5 (omega arith) i;
-      port = h 6 (omega arith) i;
-      target = h 7 (omega arith) i;
-      «alias_offset» = h 8 (omega arith) i;
-    }
+word-at : (w : List ℕ) (at n j : ℕ) → j < suc n → getD (getD w at 0 ∷ listed w at 1 n) j 0 ≡ getD w (at + j) 0
+word-at w at n zero h = first-word w at
+word-at w at n (suc j) h = listed-at w at 1 n j (omega arith) ∙ ap (λ (k : ℕ). getD w k 0) (let e : at + (1 + j) ≡ at + suc j = omega arith in e)
 
+-- ---- regions are groups of nine words, ranges of six
 region-back : (w : List ℕ) (at : ℕ) (x : Region) → ((j : ℕ) → j < 9 → getD w (at + j) 0 ≡ getD (regionWords x) j 0) → regionAt w at ≡ x
 region-back w at x h = λ i.
     record {
@@ -62,35 +53,8 @@ region-back w at x h = λ i.
       «alias_offset» = h 8 (omega arith) i;
     }
 
-region-words-of : (w : List ℕ) (at : ℕ) → at + 9 ≤ length w → regionWords (regionAt w at) ≡ take 9 (drop at w)
-region-words-of w at h =
-    (λ i. first-word w at i ∷ listed w at 1 8) ∙ listed-take w at 0 9 (omega (arith, add-zero at)) ∙ ap (λ (k : ℕ). take 9 (drop k w)) (add-zero at)
-
-pub regions-grouped : Grouped regionAt regionsAt regionWords regionsWords 9
-unfolding regionsAt regionsWords
-regions-grouped =
-    record {
-      none = λ w at. refl;
-      more = λ w at n. refl;
-      «put-none» = refl;
-      «put-more» = λ x xs. refl;
-      size = λ x. refl;
-      same = region-same;
-      back = region-back;
-      words = region-words-of;
-    }
-
--- ---- ranges are groups of six
-range-same : (w v : List ℕ) (at : ℕ) → ((j : ℕ) → j < 6 → getD w (at + j) 0 ≡ getD v (at + j) 0) → rangeAt w at ≡ rangeAt v at
-range-same w v at h = λ i.
-    record {
-      first = record { 0 = (first-word w at ∙ h 0 (omega arith) ∙ sym (first-word v at)) i };
-      last = record { 0 = h 1 (omega arith) i };
-      region = h 2 (omega arith) i;
-      offset = record { 0 = h 3 (omega arith) i };
-      kind = h 4 (omega arith) i;
-      base = h 5 (omega arith) i;
-    }
+pub regions-grouped : Grouped regionAt regionWords 9
+regions-grouped = record { size = λ x. refl; each = λ w at j h. word-at w at 8 j h; back = region-back }
 
 range-back : (w : List ℕ) (at : ℕ) (x : FlatRange) → ((j : ℕ) → j < 6 → getD w (at + j) 0 ≡ getD (rangeWords x) j 0) → rangeAt w at ≡ x
 range-back w at x h = λ i.
@@ -103,27 +67,12 @@ range-back w at x h = λ i.
       base = h 5 (omega arith) i;
     }
 
-range-words-of : (w : List ℕ) (at : ℕ) → at + 6 ≤ length w → rangeWords (rangeAt w at) ≡ take 6 (drop at w)
-range-words-of w at h =
-    (λ i. first-word w at i ∷ listed w at 1 5) ∙ listed-take w at 0 6 (omega (arith, add-zero at)) ∙ ap (λ (k : ℕ). take 6 (drop k w)) (add-zero at)
-
-pub ranges-grouped : Grouped rangeAt rangesAt rangeWords rangesWords 6
-unfolding rangesAt rangesWords
-ranges-grouped =
-    record {
-      none = λ w at. refl;
-      more = λ w at n. refl;
-      «put-none» = refl;
-      «put-more» = λ x xs. refl;
-      size = λ x. refl;
-      same = range-same;
-      back = range-back;
-      words = range-words-of;
-    }
+pub ranges-grouped : Grouped rangeAt rangeWords 6
+ranges-grouped = record { size = λ x. refl; each = λ w at j h. word-at w at 5 j h; back = range-back }
 
 -- ---- the map that 289 words stand for, and words of another number
 module _ (w : List ℕ) (size : length w ≡ 289) where
-  map-words : mapOf w ≡ record { count = getD w 0 0; regions = regionsAt w 1 32 }
+  map-words : mapOf w ≡ record { count = getD w 0 0; regions = eachAt regionAt 9 w 1 32 }
   unfolding mapOf
   map-words = rw (eq-eqb (length w) 289 size)
 
@@ -140,7 +89,7 @@ module _ (w : List ℕ) (size : length w ≡ 289) where
       ap mapWords map-words
       ∙ sym (drop-cons w 0 0 (omega arith)
       ∙ ap (λ (l : List ℕ). getD w 0 0 ∷ l)
-      (words-back regions-grouped w 1 32 (omega arith) ∙ rw (drop-of-length-le w {i = 289} (omega arith)) (append-nil (regionsWords (regionsAt w 1 32)))))
+      (words-back regions-grouped w 1 32 (omega arith) ∙ rw (drop-of-length-le w {i = 289} (omega arith)) (append-nil (eachWords regionWords (eachAt regionAt 9 w 1 32)))))
 
 pub map-other : (w : List ℕ) → (length w ≡ 289 → ⊥) → mapOf w ≡ emptyMap
 unfolding mapOf
@@ -148,7 +97,7 @@ map-other w other = rw (ne-eqb (length w) 289 other)
 
 -- ---- the view that 1,537 words stand for, and words of another number
 module _ (w : List ℕ) (size : length w ≡ 1537) where
-  view-words : viewOf w ≡ record { count = getD w 0 0; ranges = rangesAt w 1 256 }
+  view-words : viewOf w ≡ record { count = getD w 0 0; ranges = eachAt rangeAt 6 w 1 256 }
   unfolding viewOf
   view-words = rw (eq-eqb (length w) 1537 size)
 
@@ -164,7 +113,7 @@ module _ (w : List ℕ) (size : length w ≡ 1537) where
       ap viewWords view-words
       ∙ sym (drop-cons w 0 0 (omega arith)
       ∙ ap (λ (l : List ℕ). getD w 0 0 ∷ l)
-      (words-back ranges-grouped w 1 256 (omega arith) ∙ rw (drop-of-length-le w {i = 1537} (omega arith)) (append-nil (rangesWords (rangesAt w 1 256)))))
+      (words-back ranges-grouped w 1 256 (omega arith) ∙ rw (drop-of-length-le w {i = 1537} (omega arith)) (append-nil (eachWords rangeWords (eachAt rangeAt 6 w 1 256)))))
 
 pub view-other : (w : List ℕ) → (length w ≡ 1537 → ⊥) → viewOf w ≡ noView
 unfolding viewOf

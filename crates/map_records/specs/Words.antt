@@ -11,6 +11,16 @@ use Rattle.map_records.specs.declared.map.RegionMap.{RegionMap}
 use Rattle.map_records.specs.declared.view.FlatRange.{FlatRange}
 use Rattle.map_records.specs.declared.view.FlatView.{FlatView}
 
+-- n records of k words each, one behind the other from a place on
+unfoldable pub eachAt : {A : Type 0} → (List ℕ → ℕ → A) → ℕ → List ℕ → ℕ → ℕ → List A
+eachAt read k w at zero = []
+eachAt read k w at (suc n) = read w at ∷ eachAt read k w (at + k) n
+
+-- the words of records, one behind the other
+unfoldable pub eachWords : {A : Type 0} → (A → List ℕ) → List A → List ℕ
+eachWords words [] = []
+eachWords words (x ∷ xs) = words x ++ eachWords words xs
+
 -- the nine words of a region
 abbrev pub regionAt : List ℕ → ℕ → Region
 regionAt w at =
@@ -26,24 +36,16 @@ regionAt w at =
       «alias_offset» = getD w (at + 8) 0;
     }
 
-unfoldable pub regionsAt : List ℕ → ℕ → ℕ → List Region
-regionsAt w at zero = []
-regionsAt w at (suc n) = regionAt w at ∷ regionsAt w (at + 9) n
-
 -- a map of 289 words: the count, and 32 regions of 9; words of another number stand for the map of no regions, which 3 refuses
 unfoldable pub mapOf : List ℕ → RegionMap
-mapOf w = cond (eqb (length w) 289) (record { count = getD w 0 0; regions = regionsAt w 1 32 }) emptyMap
+mapOf w = cond (eqb (length w) 289) (record { count = getD w 0 0; regions = eachAt regionAt 9 w 1 32 }) emptyMap
 
 abbrev pub regionWords : Region → List ℕ
 regionWords r =
     r .kind ∷ r .parent ∷ r .offset ∷ r .size ∷ r .priority ∷ r .«memory_start» ∷ r .port ∷ r .target ∷ r .«alias_offset» ∷ []
 
-unfoldable pub regionsWords : List Region → List ℕ
-regionsWords [] = []
-regionsWords (r ∷ rs) = regionWords r ++ regionsWords rs
-
 unfoldable pub mapWords : RegionMap → List ℕ
-mapWords m = m .count ∷ regionsWords (m .regions)
+mapWords m = m .count ∷ eachWords regionWords (m .regions)
 
 -- the six words of a range
 abbrev pub rangeAt : List ℕ → ℕ → FlatRange
@@ -57,24 +59,16 @@ rangeAt w at =
       base = getD w (at + 5) 0;
     }
 
-unfoldable pub rangesAt : List ℕ → ℕ → ℕ → List FlatRange
-rangesAt w at zero = []
-rangesAt w at (suc n) = rangeAt w at ∷ rangesAt w (at + 6) n
-
 -- what words of another number stand for: a view that 27 refuses, 'over 256'
 abbrev pub noView : FlatView
 noView = record { count = 257; ranges = replicate 256 noRange }
 
 -- a view of 1,537 words: the count, and 256 ranges of 6
 unfoldable pub viewOf : List ℕ → FlatView
-viewOf w = cond (eqb (length w) 1537) (record { count = getD w 0 0; ranges = rangesAt w 1 256 }) noView
+viewOf w = cond (eqb (length w) 1537) (record { count = getD w 0 0; ranges = eachAt rangeAt 6 w 1 256 }) noView
 
 abbrev pub rangeWords : FlatRange → List ℕ
 rangeWords r = r .first .0 ∷ r .last .0 ∷ r .region ∷ r .offset .0 ∷ r .kind ∷ r .base ∷ []
 
-unfoldable pub rangesWords : List FlatRange → List ℕ
-rangesWords [] = []
-rangesWords (r ∷ rs) = rangeWords r ++ rangesWords rs
-
 unfoldable pub viewWords : FlatView → List ℕ
-viewWords v = v .count ∷ rangesWords (v .ranges)
+viewWords v = v .count ∷ eachWords rangeWords (v .ranges)

@@ -60,14 +60,10 @@ pub fn has(kind: u64, field: Field) -> bool
     ensures { λ r. ⌜ r ≡ hasField kind field ⌝ }
 {
     match field {
-        Field::Parent => true,
-        Field::Offset => true,
-        Field::Size => true,
-        Field::Priority => true,
         Field::MemoryStart => (kind == RAM) | (kind == MANAGED),
         Field::Port => kind == MMIO,
-        Field::Target => kind == ALIAS,
-        Field::AliasOffset => kind == ALIAS,
+        Field::Target | Field::AliasOffset => kind == ALIAS,
+        _ => true,
     }
 }
 

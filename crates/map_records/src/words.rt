@@ -1,12 +1,12 @@
 // Maps and views where they lie: 289 words, the count and nine for each of 32 regions; 1,537 words, the count and
 // six for each of 256 ranges. Nothing is copied but the one record that is read or written.
 ghost use mathlib.Core.Path.{_≡_};
-ghost use Prim.Native.Nat.{_+_, _*_, _<_};
+ghost use Prim.Native.Nat.{_+_, _*_, _≤_, _<_};
 ghost use lib.ListN.{length, set};
 ghost use lib.Seq.{sets};
 ghost use Rattle.map_records.specs.Map.{region};
 ghost use Rattle.map_records.specs.View.{rangeOf};
-ghost use Rattle.map_records.specs.Words.{mapOf, viewOf, regionWords, rangeWords};
+ghost use Rattle.map_records.specs.Words.{mapOf, viewOf, regionAt, rangeAt, regionWords, rangeWords};
 use crate::map::GuestAddress;
 use crate::map::Region;
 use crate::map::RegionOffset;
@@ -20,11 +20,11 @@ pub fn region_count(map: &[u64]) -> usize
     map[0] as usize
 }
 
-pub fn region_at(map: &[u64], n: usize) -> Region
-    requires { ⌜ (length (now map) ≡ 289) × (n < 32) ⌝ }
-    ensures { λ r. ⌜ r ≡ region (mapOf (now (map .entry))) n ⌝ }
+// The region whose nine words begin at a place.
+fn region_from(map: &[u64], at: usize) -> Region
+    requires { ⌜ at + 9 ≤ length (now map) ⌝ }
+    ensures { λ r. ⌜ r ≡ regionAt (now (map .entry)) at ⌝ }
 {
-    let at = 1 + 9 * n;
     Region {
         kind: map[at],
         parent: map[at + 1] as usize,
@@ -36,6 +36,13 @@ pub fn region_at(map: &[u64], n: usize) -> Region
         target: map[at + 7] as usize,
         alias_offset: map[at + 8],
     }
+}
+
+pub fn region_at(map: &[u64], n: usize) -> Region
+    requires { ⌜ (length (now map) ≡ 289) × (n < 32) ⌝ }
+    ensures { λ r. ⌜ r ≡ region (mapOf (now (map .entry))) n ⌝ }
+{
+    region_from(map, 1 + 9 * n)
 }
 
 pub fn put_region_count(map: &mut [u64], n: usize)
@@ -89,11 +96,11 @@ pub fn put_count(view: &mut [u64], n: usize)
     view[0] = n as u64;
 }
 
-pub fn range_at(view: &[u64], k: usize) -> FlatRange
-    requires { ⌜ (length (now view) ≡ 1537) × (k < 256) ⌝ }
-    ensures { λ r. ⌜ r ≡ rangeOf (viewOf (now (view .entry))) k ⌝ }
+// The range whose six words begin at a place.
+fn range_from(view: &[u64], at: usize) -> FlatRange
+    requires { ⌜ at + 6 ≤ length (now view) ⌝ }
+    ensures { λ r. ⌜ r ≡ rangeAt (now (view .entry)) at ⌝ }
 {
-    let at = 1 + 6 * k;
     FlatRange {
         first: GuestAddress(view[at]),
         last: GuestAddress(view[at + 1]),
@@ -102,6 +109,13 @@ pub fn range_at(view: &[u64], k: usize) -> FlatRange
         kind: view[at + 4],
         base: view[at + 5],
     }
+}
+
+pub fn range_at(view: &[u64], k: usize) -> FlatRange
+    requires { ⌜ (length (now view) ≡ 1537) × (k < 256) ⌝ }
+    ensures { λ r. ⌜ r ≡ rangeOf (viewOf (now (view .entry))) k ⌝ }
+{
+    range_from(view, 1 + 6 * k)
 }
 
 pub fn put_range(view: &mut [u64], k: usize, range: FlatRange)
