@@ -7,7 +7,8 @@ use native.Mathlib.Omega.{arith}
 use native.Mathlib.Nat.{eq-or-lt-of-le}
 use lib.Dec.{ltb}
 use borrow.Author.Tests.{ltb-true, lt-ltb}
-use Rattle.region_map.specs.Reply.{Reply, accepted, nodes, place, plain, _then_, first, lowest, pairsOf, firstPair}
+use Rattle.region_map.proofs.Bools.{never}
+use Rattle.region_map.specs.Reply.{Reply, accepted, nodes, place, plain, _then_, passes, first, lowest, pairsOf, firstPair}
 
 -- a sequence that refuses refuses in one of its parts, and one that passes passes in both
 pub then-left : (a b : Reply) → (a then b) ≡ accepted → a ≡ accepted
@@ -24,6 +25,18 @@ then-right (plain k) b e = absurd (let z : _≡_ {A = ℕ} 0 1 = cc in omega ari
 
 pub then-both : (a b : Reply) → a ≡ accepted → b ≡ accepted → (a then b) ≡ accepted
 then-both a b p q = rw (p, q)
+
+pub refused-stays : (a b : Reply) → passes a ≡ false → (a then b) ≡ a
+refused-stays accepted b e = absurd (never e)
+refused-stays (nodes k i j) b e = refl
+refused-stays (place k p) b e = refl
+refused-stays (plain k) b e = refl
+
+pub then-four : (r a b c d : Reply) → (r then a then b then c then d) ≡ (r then (a then b then c then d))
+then-four accepted a b c d = refl
+then-four (nodes k i j) a b c d = refl
+then-four (place k p) a b c d = refl
+then-four (plain k) a b c d = refl
 
 module _ (f : ℕ → Reply) where
   pub first-none : (n : ℕ) → ((i : ℕ) → i < n → f i ≡ accepted) → first f n ≡ accepted

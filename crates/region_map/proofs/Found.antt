@@ -1,13 +1,17 @@
--- What the two searches find, as equations. Assumes nothing.
+-- What the two searches find, as equations, and the check as its parts. Assumes nothing.
 use mathlib.Core.Path.{_≡_, subst}
-use mathlib.Core.Bool.{Bool}
+use mathlib.Core.Bool.{Bool, true, false}
 use Prim.Native.Nat.{ℕ}
-use Rattle.region_map.specs.Reply.{accepted, nodes, lowest, firstPair}
-use Rattle.region_map.specs.Contracts.{LowestIs, FirstIs}
+use Rattle.region_map.specs.Reply.{accepted, nodes, _then_, lowest, firstPair}
+use Rattle.region_map.specs.Contracts.{clash, LowestIs, FirstIs, onRegions, onPairs}
+use Rattle.region_map.specs.Check.{countFault, judged}
+use Rattle.map_records.specs.declared.map.RegionMap.{RegionMap}
+use Rattle.region_map.specs.declared.clash.PairRule.the-variants as pair-rule
 use Rattle.region_map.specs.declared.search.Lowest.{Lowest}
 use Rattle.region_map.specs.declared.search.Lowest.the-variants.{Node, Nothing}
 use Rattle.region_map.specs.declared.search.Pair.{Pair}
 use Rattle.region_map.specs.declared.search.Pair.the-variants as pair
+use Rattle.region_map.proofs.First.{then-four}
 
 module _ (f : ℕ → Bool) (n : ℕ) (r : Lowest) where
   pub lowest-passed : LowestIs f n r → r ≡ Nothing → (k : ℕ) → lowest k f n ≡ accepted
@@ -22,3 +26,15 @@ module _ (f : ℕ → ℕ → Bool) (n : ℕ) (r : Pair) where
 
   pub pair-found : (i j : ℕ) → FirstIs f n r → r ≡ pair.Found i j → (k : ℕ) → firstPair k f n ≡ nodes k i j
   pair-found i j h e = subst (FirstIs f n) e h
+
+module _ (m : RegionMap) (memory : ℕ) where
+  pub judged-count : countFault (m .count) ≡ true → nodes 3 0 0 ≡ judged m memory
+  unfolding judged
+  judged-count e = rw e
+
+  pub judged-parts : countFault (m .count) ≡ false → judged m memory ≡ (onRegions m memory then onPairs m)
+  unfolding judged onRegions onPairs
+  judged-parts e =
+      rw e
+      (then-four (onRegions m memory) (firstPair 8 (clash pair-rule.Memory m) (m .count)) (firstPair 9 (clash pair-rule.Managed m) (m .count))
+      (firstPair 10 (clash pair-rule.Ports m) (m .count)) (firstPair 11 (clash pair-rule.Siblings m) (m .count)))

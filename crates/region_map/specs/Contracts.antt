@@ -8,7 +8,7 @@ use lib.ListN.{length, drop, replicate}
 use Rattle.map_records.specs.Map.{alias, region}
 use Rattle.map_records.specs.View.{noRange, rangeOf, entries}
 use Rattle.map_records.specs.Words.{mapOf, viewOf}
-use Rattle.region_map.specs.Reply.{accepted, nodes, lowest, firstPair}
+use Rattle.region_map.specs.Reply.{Reply, accepted, nodes, _then_, lowest, firstPair}
 use Rattle.region_map.specs.Fault.{kindFault, fieldFault, linkFault, memoryFault}
 use Rattle.region_map.specs.Clash.{memoryClash, managedClash, portClash, siblingClash}
 use Rattle.region_map.specs.Walk.{ranked, walkRoot}
@@ -58,6 +58,21 @@ LowestIs f n lowest.Nothing = (k : ℕ) → lowest k f n ≡ accepted
 abbrev pub FirstIs : (ℕ → ℕ → Bool) → ℕ → Pair → Type 0
 FirstIs f n (found.Found i j) = (k : ℕ) → firstPair k f n ≡ nodes k i j
 FirstIs f n found.Nothing = (k : ℕ) → firstPair k f n ≡ accepted
+
+-- the part of the check that goes over one region, and the part that goes over two
+unfoldable pub onRegions : RegionMap → ℕ → Reply
+onRegions m memory =
+    lowest 4 (fault node.Kind m memory) (m .count)
+    then lowest 6 (fault node.Field m memory) (m .count)
+    then lowest 7 (fault node.Link m memory) (m .count)
+    then lowest 8 (fault node.Memory m memory) (m .count)
+
+unfoldable pub onPairs : RegionMap → Reply
+onPairs m =
+    firstPair 8 (clash pair.Memory m) (m .count)
+    then firstPair 9 (clash pair.Managed m) (m .count)
+    then firstPair 10 (clash pair.Ports m) (m .count)
+    then firstPair 11 (clash pair.Siblings m) (m .count)
 
 -- The walk.
 

@@ -3,6 +3,7 @@ ghost use mathlib.Core.Path.{_≡_};
 ghost use Rattle.map_records.specs.Words.{mapOf};
 ghost use Rattle.region_map.specs.Check.{reply, judged};
 ghost use Rattle.region_map.specs.Reply.{numberOf, passes};
+ghost use Rattle.region_map.specs.Contracts.{Counted, onRegions, onPairs};
 use crate::clash::PairRule;
 use crate::fault::NodeRule;
 use crate::search::Lowest;
@@ -25,47 +26,6 @@ pub enum MapAnswer {
     Overlap(usize, usize),
 }
 
-// Judges a map against the length of guest memory. Words of another number than 289 are a map of no regions.
-pub fn check_map(map: &[u64], memory_length: u64) -> MapAnswer
-    ensures { λ r. ⌜ reply r ≡ judged (mapOf (now (map .entry))) «memory_length» ⌝ }
-{
-    if map.len() != 289 {
-        return MapAnswer::Count;
-    }
-    let count = region_count(map);
-    if count == 0 {
-        return MapAnswer::Count;
-    }
-    if REGIONS < count {
-        return MapAnswer::Count;
-    }
-    if let Lowest::Node(n) = lowest_fault(map, memory_length, NodeRule::Kind) {
-        return MapAnswer::Kind(n);
-    }
-    if let Lowest::Node(n) = lowest_fault(map, memory_length, NodeRule::Field) {
-        return MapAnswer::Field(n);
-    }
-    if let Lowest::Node(n) = lowest_fault(map, memory_length, NodeRule::Link) {
-        return MapAnswer::Link(n);
-    }
-    if let Lowest::Node(n) = lowest_fault(map, memory_length, NodeRule::Memory) {
-        return MapAnswer::Memory(n, n);
-    }
-    if let Pair::Found(i, j) = first_pair(map, PairRule::Memory) {
-        return MapAnswer::Memory(i, j);
-    }
-    if let Pair::Found(i, j) = first_pair(map, PairRule::Managed) {
-        return MapAnswer::Managed(i, j);
-    }
-    if let Pair::Found(i, j) = first_pair(map, PairRule::Ports) {
-        return MapAnswer::Port(i, j);
-    }
-    if let Pair::Found(i, j) = first_pair(map, PairRule::Siblings) {
-        return MapAnswer::Overlap(i, j);
-    }
-    MapAnswer::Accepted
-}
-
 // Is the map accepted?
 pub fn accepts(answer: MapAnswer) -> bool
     ensures { λ r. ⌜ r ≡ passes (reply answer) ⌝ }
@@ -81,6 +41,64 @@ pub fn accepts(answer: MapAnswer) -> bool
         MapAnswer::Port(_, _) => false,
         MapAnswer::Overlap(_, _) => false,
     }
+}
+
+// The rules over one region: 4, 6, 7, and 8's ends past the memory.
+fn check_regions(map: &[u64], memory_length: u64) -> MapAnswer
+    requires { ⌜ Counted (now map) ⌝ }
+    ensures { λ r. ⌜ reply r ≡ onRegions (mapOf (now (map .entry))) «memory_length» ⌝ }
+{
+    if let Lowest::Node(n) = lowest_fault(map, memory_length, NodeRule::Kind) {
+        return MapAnswer::Kind(n);
+    }
+    if let Lowest::Node(n) = lowest_fault(map, memory_length, NodeRule::Field) {
+        return MapAnswer::Field(n);
+    }
+    if let Lowest::Node(n) = lowest_fault(map, memory_length, NodeRule::Link) {
+        return MapAnswer::Link(n);
+    }
+    if let Lowest::Node(n) = lowest_fault(map, memory_length, NodeRule::Memory) {
+        return MapAnswer::Memory(n, n);
+    }
+    MapAnswer::Accepted
+}
+
+// The rules over two regions: 8's shared bytes, and 9 to 11.
+fn check_pairs(map: &[u64]) -> MapAnswer
+    requires { ⌜ Counted (now map) ⌝ }
+    ensures { λ r. ⌜ reply r ≡ onPairs (mapOf (now (map .entry))) ⌝ }
+{
+    if let Pair::Found(i, j) = first_pair(map, PairRule::Memory) {
+        return MapAnswer::Memory(i, j);
+    }
+    if let Pair::Found(i, j) = first_pair(map, PairRule::Managed) {
+        return MapAnswer::Managed(i, j);
+    }
+    if let Pair::Found(i, j) = first_pair(map, PairRule::Ports) {
+        return MapAnswer::Port(i, j);
+    }
+    if let Pair::Found(i, j) = first_pair(map, PairRule::Siblings) {
+        return MapAnswer::Overlap(i, j);
+    }
+    MapAnswer::Accepted
+}
+
+// Judges a map against the length of guest memory. Words of another number than 289 are a map of no regions.
+pub fn check_map(map: &[u64], memory_length: u64) -> MapAnswer
+    ensures { λ r. ⌜ reply r ≡ judged (mapOf (now (map .entry))) «memory_length» ⌝ }
+{
+    if map.len() != 289 {
+        return MapAnswer::Count;
+    }
+    let count = region_count(map);
+    if (count == 0) | (REGIONS < count) {
+        return MapAnswer::Count;
+    }
+    let answer = check_regions(map, memory_length);
+    if accepts(answer) {
+        return check_pairs(map);
+    }
+    answer
 }
 
 // Document 01's number of the refusal, and 0 for an accepted map.
