@@ -82,6 +82,16 @@ record-back d p q =
     ∙ ap (λ (t : List ℕ). withTables d (d .plugged) (take 16 t)) (drop-at (d .plugged) (d .pinned) 16 p)
     ∙ ap (λ (t : List ℕ). withTables d (d .plugged) t) (take-all 16 (d .pinned) (omega arith))
 
+-- other words in both tables, one after the other
+pub tables-stored : (w t u p q : List ℕ) → length w ≡ 37 → t ≡ p → u ≡ q → length p ≡ 16
+    → take 21 (take 5 w ++ (t ++ drop 16 (drop 5 w))) ++ (u ++ drop 16 (drop 21 (take 5 w ++ (t ++ drop 16 (drop 5 w))))) ≡ deviceWords (withTables (deviceAt w) p q)
+tables-stored w t u p q l e f h =
+    let d = withPlugged (deviceAt w) p in
+    let size = words-length d h (pins-length w l) in
+    rw (e, f)
+    (ap (λ (x : List ℕ). take 21 x ++ (q ++ drop 16 (drop 21 x))) (plug-stored w p l) ∙ pins-stored (deviceWords d) q size
+    ∙ ap (λ (m : MemoryDevice). deviceWords (withPins m q)) (sym (device-at (deviceWords d) size) ∙ record-back d h (pins-length w l)))
+
 -- what the test of the words says
 module _ (w : List ℕ) (x : Bool) (e : x ≡ (isDevice w && deviceOk (deviceOf w))) where
   pub ok-length : x ≡ true → length w ≡ 37

@@ -26,6 +26,18 @@ pub fn number_at(bytes: &[u8], at: usize, k: usize) -> u64
     value
 }
 
+// Bytes laid over as many others.
+pub fn copy_bytes(to: &mut [u8], from: &[u8])
+    requires { ⌜ length (now to) ≡ length (now from) ⌝ }
+    ensures { λ _. ⌜ now (to .exit) ≡ now (from .entry) ⌝ }
+{
+    let mut i: usize = 0;
+    while i < from.len() {
+        to[i] = from[i];
+        i += 1;
+    }
+}
+
 // The ten bytes of a response.
 pub fn response_bytes(kind: u16, state: u16) -> [u8; 10]
     ensures { λ r. ⌜ r ≡ responseBytes kind state ⌝ }

@@ -1,15 +1,15 @@
 -- Laws of the guest's bytes: the bounds of one, and the turns of the loops that fill a slice and write bytes. Assumes nothing.
 use mathlib.Core.Path.{_≡_, refl, sym, ap, _∙_}
-use mathlib.Core.List.{List, map}
+use mathlib.Core.List.{List, _∷_, map}
 use Prim.Native.Nat.{ℕ, zero, suc, _+_, _-_, _^_, _≤_, _<_}
 use native.Mathlib.Nat.{add-zero}
 use native.Mathlib.Numerals.{add-one}
 use native.Mathlib.Omega.{arith}
-use lib.ListN.{length, getD, set, drop, drop-of-length-le, length-map, length-set}
+use lib.ListN.{length, getD, set, take, drop, drop-of-length-le, length-map, length-set}
 use lib.Seq.{sets, drop-cons}
 use Rattle.map_records.specs.declared.view.FlatView.{FlatView}
 use Rattle.map_records.proofs.StoreLaws.{over}
-use Rattle.guest_view.specs.Guest.{addresses, written}
+use Rattle.guest_view.specs.Guest.{addresses, byteAt, written}
 use Rattle.guest_view.specs.Contracts.{Ordered, Backed, InMemory, placeIn}
 use Rattle.guest_view.proofs.GuestLaws.{memory-low, memory-part, place-below}
 
@@ -58,6 +58,14 @@ module _ (f : ℕ → ℕ) (a : ℕ) (start out : List ℕ) (i : ℕ) (filling :
 
 pub fill-none : (f : ℕ → ℕ) (a : ℕ) (out : List ℕ) → length out ≡ 0 → out ≡ map f (addresses a (length out))
 fill-none f a out h = fill-ends f a out out 0 (fill-starts f a out) (omega arith)
+
+-- a part of the memory is the bytes at its addresses
+pub part-bytes : (memory : List ℕ) (p n : ℕ) → p + n ≤ length memory → take n (drop p memory) ≡ map (byteAt (λ a. a) memory) (addresses p n)
+unfolding addresses
+part-bytes memory p zero h = refl
+part-bytes memory p (suc n) h =
+    let l : p < length memory = omega arith in
+    rw (drop-cons memory p 0 l) (ap (λ (r : List ℕ). getD memory p 0 ∷ r) (part-bytes memory (suc p) n (omega arith)))
 
 -- a turn of a loop that writes bytes at places, and its end
 pub write-turn : (m : List ℕ) (i : ℕ) (ps bs : List ℕ) → i < length ps → i < length bs

@@ -1,15 +1,14 @@
 -- What the functions inside the crate promise each other. Assumes nothing: these are definitions.
 use mathlib.Core.Path.{_≡_}
 use mathlib.Core.Bool.{Bool, true, false, _||_}
-use mathlib.Core.List.{List}
+use mathlib.Core.List.{List, map}
 use Prim.Native.Nat.{ℕ, _+_, _-_, _^_, _≤_, _<_}
 use lib.Dec.{eqb}
 use lib.ListN.{length, getD}
 use Rattle.map_records.specs.Map.{ram, mmio, managed}
-use Rattle.map_records.specs.View.{entries}
-use Rattle.map_records.specs.View.{rangeOf, lastOffset}
+use Rattle.map_records.specs.View.{entries, rangeOf, lastOffset}
 use Rattle.map_records.specs.declared.view.FlatView.{FlatView}
-use Rattle.guest_view.specs.Guest.{Leaf, nowhere, leaf, leafIn, leafAt, reachKind, placeLeaf}
+use Rattle.guest_view.specs.Guest.{Leaf, nowhere, leaf, leafIn, leafAt, reachKind, placeLeaf, viewGuest, addresses, byteAt, numberAt}
 use Rattle.guest_view.specs.View.{agree}
 use Rattle.map_records.specs.Words.{viewOf}
 use Rattle.guest_view.specs.declared.reach.Extent.{Extent}
@@ -58,9 +57,26 @@ pub record InMemory (v : FlatView) (a n : ℕ) : Type 0 where
 abbrev pub placeIn : FlatView → ℕ → ℕ
 placeIn v a = placeLeaf (leafAt (entries v) a)
 
+-- what is read through a view's words from an address on: the number of k bytes, n bytes, and the places of n bytes
+abbrev pub numberIn : List ℕ → List ℕ → ℕ → ℕ → ℕ
+numberIn view memory a k = numberAt (placeIn (viewOf view)) memory a k
+
+abbrev pub bytesIn : List ℕ → List ℕ → ℕ → ℕ → List ℕ
+bytesIn view memory a n = map (byteAt (placeIn (viewOf view)) memory) (addresses a n)
+
+abbrev pub placesIn : List ℕ → ℕ → ℕ → List ℕ
+placesIn view a n = map (placeIn (viewOf view)) (addresses a n)
+
 -- bytes side by side in the memory: that at an address, and as many after it as `left` says
 pub record Runs (v : FlatView) (a place left : ℕ) : Type 0 where
   pub each : (i : ℕ) → i ≤ left → placeIn v (a + i) ≡ place + i
+
+-- a block size and a plug table that can be asked, and the addresses that they and a view's words make reachable
+abbrev pub Table : ℕ → List ℕ → Type 0
+Table block plugged = (0 < block) × (length plugged ≡ 16)
+
+abbrev pub reachIn : List ℕ → ℕ → List ℕ → ℕ → Bool
+reachIn view block plugged = viewGuest (viewOf view) block plugged .reach
 
 -- how far bytes are reachable from an address on
 abbrev pub Reaches : (ℕ → Bool) → ℕ → Extent → Type 0
@@ -81,6 +97,11 @@ pub record Owner (v : FlatView) (k n first : ℕ) : Type 0 where
 
 pub record Owners (v : FlatView) (k : ℕ) (owner : List ℕ) : Type 0 where
   pub each : (n : ℕ) → n < 32 → Owner v k n (getD owner n 0)
+
+-- the ranges before k ascend, and none is empty
+pub record Ascends (v : FlatView) (k : ℕ) : Type 0 where
+  pub apart : (i j : ℕ) → i < j → j < k → rangeOf v i .last .0 < rangeOf v j .first .0
+  pub order : (j : ℕ) → j < k → rangeOf v j .first .0 ≤ rangeOf v j .last .0
 
 -- the places lie in a memory of this length
 pub record Within (places : List ℕ) (memory : ℕ) : Type 0 where

@@ -1,6 +1,6 @@
 -- 27 for a given flat view, rule by rule, and what the list gives. Assumes nothing: these are definitions.
 use mathlib.Core.Bool.{Bool, _&&_, _||_, not}
-use Prim.Native.Nat.{ℕ, _+_, _-_}
+use Prim.Native.Nat.{ℕ, _+_}
 use lib.Dec.{eqb, leb, ltb}
 use Rattle.map_records.specs.Map.{ram, mmio, managed}
 use Rattle.region_map.specs.Fault.{limit}
@@ -45,9 +45,12 @@ agree x y = not (eqb (x .region) (y .region)) || (eqb (x .kind) (y .kind) && eqb
 abbrev pub pairOk : FlatRange → FlatRange → Bool
 pairOk x y = ltb (x .last .0) (y .first .0) && agree x y
 
--- entry k by itself and with each before it
+-- entry k with each before it; by itself too
+abbrev pub pairsOk : FlatView → ℕ → Bool
+pairsOk v k = allBelow (λ j. pairOk (rangeOf v j) (rangeOf v k)) k
+
 unfoldable pub entryOk : FlatView → ℕ → ℕ → ℕ → Bool
-entryOk v memory region k = rangeOk memory region (rangeOf v k) && allBelow (λ j. pairOk (rangeOf v j) (rangeOf v k)) k
+entryOk v memory region k = rangeOk memory region (rangeOf v k) && pairsOk v k
 
 -- 27 for runs, over a lent memory and a managed region of these lengths: 'over 256', and every entry
 unfoldable pub viewOk : FlatView → ℕ → ℕ → Bool

@@ -6,10 +6,11 @@ ghost use Prim.Native.Nat.{_+_, _^_, _≤_, _<_};
 ghost use lib.ListN.{length};
 ghost use Rattle.map_records.specs.Words.{viewOf};
 ghost use Rattle.guest_view.specs.Guest.{addresses, byteAt, numberAt, written};
-ghost use Rattle.guest_view.specs.Contracts.{Judged, Backed, InMemory, Runs, Within, placeIn};
+ghost use Rattle.guest_view.specs.Contracts.{Judged, Backed, InMemory, Runs, Within, numberIn, bytesIn, placesIn};
 use crate::find::near;
 use crate::place::offset_in;
 use crate::place::place_of;
+use device_words::bytes::copy_bytes;
 use device_words::bytes::number_at;
 use device_words::bytes::wide;
 use map_records::map::GuestAddress;
@@ -51,7 +52,7 @@ fn number_apart(view: &[u64], mem: &[u8], addr: GuestAddress, bytes: u64) -> u64
     requires { ⌜ Backed (viewOf (now view)) (length (now mem)) ⌝ }
     requires { ⌜ InMemory (viewOf (now view)) (addr .0) bytes ⌝ }
     requires { ⌜ bytes ≤ 8 ⌝ }
-    ensures { λ r. ⌜ (r ≡ numberAt (placeIn (viewOf (now (view .entry)))) (now (mem .entry)) (addr .0) bytes) × (r < 256 ^ bytes) ⌝ }
+    ensures { λ r. ⌜ (r ≡ numberIn (now (view .entry)) (now (mem .entry)) (addr .0) bytes) × (r < 256 ^ bytes) ⌝ }
 {
     let mut value: u64 = 0;
     let mut i = bytes;
@@ -70,7 +71,7 @@ pub fn read_number(view: &[u64], mem: &[u8], hint: usize, addr: GuestAddress, by
     requires { ⌜ Backed (viewOf (now view)) (length (now mem)) ⌝ }
     requires { ⌜ InMemory (viewOf (now view)) (addr .0) bytes ⌝ }
     requires { ⌜ (0 < bytes) × (bytes ≤ 8) ⌝ }
-    ensures { λ r. ⌜ (r ≡ numberAt (placeIn (viewOf (now (view .entry)))) (now (mem .entry)) (addr .0) bytes) × (r < 256 ^ bytes) ⌝ }
+    ensures { λ r. ⌜ (r ≡ numberIn (now (view .entry)) (now (mem .entry)) (addr .0) bytes) × (r < 256 ^ bytes) ⌝ }
 {
     let here = stretch_at(view, hint, addr);
     if bytes - 1 <= here.left {
@@ -84,11 +85,8 @@ fn bytes_from(mem: &[u8], place: usize, out: &mut [u8])
     requires { ⌜ place + length (now out) ≤ length (now mem) ⌝ }
     ensures { λ _. ⌜ now (out .exit) ≡ map (byteAt (λ a. a) (now (mem .entry))) (addresses place (length (now (out .entry)))) ⌝ }
 {
-    let mut i: usize = 0;
-    while i < out.len() {
-        out[i] = mem[place + i];
-        i += 1;
-    }
+    let end = place + out.len();
+    copy_bytes(out, &mem[place..end]);
 }
 
 // The same of bytes that may lie apart.
@@ -96,7 +94,7 @@ fn bytes_apart(view: &[u64], mem: &[u8], addr: GuestAddress, out: &mut [u8])
     requires { ⌜ Judged (now view) ⌝ }
     requires { ⌜ Backed (viewOf (now view)) (length (now mem)) ⌝ }
     requires { ⌜ InMemory (viewOf (now view)) (addr .0) (length (now out)) ⌝ }
-    ensures { λ _. ⌜ now (out .exit) ≡ map (byteAt (placeIn (viewOf (now (view .entry)))) (now (mem .entry))) (addresses (addr .0) (length (now (out .entry)))) ⌝ }
+    ensures { λ _. ⌜ now (out .exit) ≡ bytesIn (now (view .entry)) (now (mem .entry)) (addr .0) (length (now (out .entry))) ⌝ }
 {
     let mut i: usize = 0;
     while i < out.len() {
@@ -112,7 +110,7 @@ pub fn read_bytes(view: &[u64], mem: &[u8], hint: usize, addr: GuestAddress, out
     requires { ⌜ Judged (now view) ⌝ }
     requires { ⌜ Backed (viewOf (now view)) (length (now mem)) ⌝ }
     requires { ⌜ InMemory (viewOf (now view)) (addr .0) (length (now out)) ⌝ }
-    ensures { λ _. ⌜ now (out .exit) ≡ map (byteAt (placeIn (viewOf (now (view .entry)))) (now (mem .entry))) (addresses (addr .0) (length (now (out .entry)))) ⌝ }
+    ensures { λ _. ⌜ now (out .exit) ≡ bytesIn (now (view .entry)) (now (mem .entry)) (addr .0) (length (now (out .entry))) ⌝ }
 {
     let count = out.len();
     if count == 0 {
@@ -142,7 +140,7 @@ fn places_from(place: usize, out: &mut [usize])
 fn places_apart(view: &[u64], addr: GuestAddress, out: &mut [usize])
     requires { ⌜ Judged (now view) ⌝ }
     requires { ⌜ InMemory (viewOf (now view)) (addr .0) (length (now out)) ⌝ }
-    ensures { λ _. ⌜ now (out .exit) ≡ map (placeIn (viewOf (now (view .entry)))) (addresses (addr .0) (length (now (out .entry)))) ⌝ }
+    ensures { λ _. ⌜ now (out .exit) ≡ placesIn (now (view .entry)) (addr .0) (length (now (out .entry))) ⌝ }
 {
     let mut i: usize = 0;
     while i < out.len() {
@@ -156,7 +154,7 @@ fn places_apart(view: &[u64], addr: GuestAddress, out: &mut [usize])
 pub fn find_places(view: &[u64], hint: usize, addr: GuestAddress, out: &mut [usize])
     requires { ⌜ Judged (now view) ⌝ }
     requires { ⌜ InMemory (viewOf (now view)) (addr .0) (length (now out)) ⌝ }
-    ensures { λ _. ⌜ now (out .exit) ≡ map (placeIn (viewOf (now (view .entry)))) (addresses (addr .0) (length (now (out .entry)))) ⌝ }
+    ensures { λ _. ⌜ now (out .exit) ≡ placesIn (now (view .entry)) (addr .0) (length (now (out .entry))) ⌝ }
 {
     let count = out.len();
     if count == 0 {

@@ -2,11 +2,9 @@
 ghost use mathlib.Core.Path.{_≡_};
 ghost use mathlib.Core.Bool.{true};
 ghost use Prim.Native.Nat.{ℕ, _+_, _≤_, _<_};
-ghost use lib.ListN.{length};
 ghost use Rattle.device_words.specs.Device.{pluggedIn};
-ghost use Rattle.map_records.specs.Words.{viewOf};
-ghost use Rattle.guest_view.specs.Guest.{viewGuest, allReach};
-ghost use Rattle.guest_view.specs.Contracts.{Judged, Extends, Reaches};
+ghost use Rattle.guest_view.specs.Guest.{allReach};
+ghost use Rattle.guest_view.specs.Contracts.{Judged, Table, Extends, Reaches, reachIn};
 use crate::find::near;
 use crate::place::offset_in;
 use device_words::device::block_of;
@@ -30,7 +28,7 @@ pub enum Extent {
 
 // Is the byte at an offset of the managed region in a plugged block? The table has 1,024.
 pub fn is_plugged(block: u64, plugged: &[u64], offset: RegionOffset) -> bool
-    requires { ⌜ (0 < block) × (length (now plugged) ≡ 16) ⌝ }
+    requires { ⌜ Table block (now plugged) ⌝ }
     ensures { λ r. ⌜ r ≡ pluggedIn block (now (plugged .entry)) (offset .0) ⌝ }
 {
     if offset.0 / block < 1024 {
@@ -42,7 +40,7 @@ pub fn is_plugged(block: u64, plugged: &[u64], offset: RegionOffset) -> bool
 
 // Are the blocks of the bytes from an offset on plugged, up to `more` bytes after it?
 fn run_plugged(block: u64, plugged: &[u64], offset: RegionOffset, more: u64) -> bool
-    requires { ⌜ (0 < block) × (length (now plugged) ≡ 16) ⌝ }
+    requires { ⌜ Table block (now plugged) ⌝ }
     requires { ⌜ offset .0 + more < 281474976710656 ⌝ }
     ensures { λ r. ⌜ (r ≡ true → (e : ℕ) → e ≤ more → pluggedIn block (now (plugged .entry)) (offset .0 + e) ≡ true) ⌝ }
 {
@@ -66,7 +64,7 @@ fn how_far(
     span: u64,
     wanted: u64,
 ) -> Extent
-    requires { ⌜ (0 < block) × (length (now plugged) ≡ 16) ⌝ }
+    requires { ⌜ Table block (now plugged) ⌝ }
     requires { ⌜ offset .0 + span < 281474976710656 ⌝ }
     ensures { λ r. ⌜ Extends (pluggedIn block (now (plugged .entry))) kind (offset .0) span r ⌝ }
 {
@@ -97,8 +95,8 @@ fn extent_at(
     wanted: u64,
 ) -> Extent
     requires { ⌜ Judged (now view) ⌝ }
-    requires { ⌜ (0 < block) × (length (now plugged) ≡ 16) ⌝ }
-    ensures { λ r. ⌜ Reaches (viewGuest (viewOf (now (view .entry))) block (now (plugged .entry)) .reach) (a .0) r ⌝ }
+    requires { ⌜ Table block (now plugged) ⌝ }
+    ensures { λ r. ⌜ Reaches (reachIn (now (view .entry)) block (now (plugged .entry))) (a .0) r ⌝ }
 {
     let at = near(view, hint, a);
     if count_of(view) <= at {
@@ -126,8 +124,8 @@ pub fn reaches(
     count: u64,
 ) -> bool
     requires { ⌜ Judged (now view) ⌝ }
-    requires { ⌜ (0 < block) × (length (now plugged) ≡ 16) ⌝ }
-    ensures { λ r. ⌜ r ≡ allReach (viewGuest (viewOf (now (view .entry))) block (now (plugged .entry)) .reach) (addr .0) count ⌝ }
+    requires { ⌜ Table block (now plugged) ⌝ }
+    ensures { λ r. ⌜ r ≡ allReach (reachIn (now (view .entry)) block (now (plugged .entry))) (addr .0) count ⌝ }
 {
     if count == 0 {
         return true;

@@ -1,13 +1,12 @@
 // 27 for a given flat view.
 ghost use mathlib.Core.Path.{_≡_};
 ghost use mathlib.Core.Bool.{_&&_};
-ghost use Prim.Native.Nat.{ℕ, _≤_, _<_};
+ghost use Prim.Native.Nat.{_<_};
 ghost use lib.ListN.{length};
 ghost use Rattle.map_records.specs.View.{rangeOf, lastOffset};
-ghost use Rattle.device_words.specs.Table.{allBelow};
 ghost use Rattle.map_records.specs.Words.{viewOf};
-ghost use Rattle.guest_view.specs.View.{kindOk, memoryOk, managedOk, rangeOk, pairOk, viewOk};
-ghost use Rattle.guest_view.specs.Contracts.{Owner};
+ghost use Rattle.guest_view.specs.View.{kindOk, memoryOk, managedOk, rangeOk, pairsOk, viewOk};
+ghost use Rattle.guest_view.specs.Contracts.{Owner, Ascends};
 use crate::place::offset_in;
 use map_records::map::MANAGED;
 use map_records::map::MMIO;
@@ -68,10 +67,8 @@ fn range_ok(range: FlatRange, memory: u64, region: u64) -> bool
 fn pairs_ok(view: &[u64], range: FlatRange, first: usize, k: usize) -> bool
     requires { ⌜ length (now view) ≡ 1537 ⌝ }
     requires { ⌜ (k < 256) × (range ≡ rangeOf (viewOf (now view)) k) ⌝ }
-    requires { ⌜ Owner (viewOf (now view)) k (range .region) first ⌝ }
-    requires { ⌜ ((i j : ℕ) → i < j → j < k → rangeOf (viewOf (now view)) i .last .0 < rangeOf (viewOf (now view)) j .first .0) ⌝ }
-    requires { ⌜ ((j : ℕ) → j < k → rangeOf (viewOf (now view)) j .first .0 ≤ rangeOf (viewOf (now view)) j .last .0) ⌝ }
-    ensures { λ r. ⌜ r ≡ allBelow (λ j. pairOk (rangeOf (viewOf (now (view .entry))) j) (rangeOf (viewOf (now (view .entry))) k)) k ⌝ }
+    requires { ⌜ Owner (viewOf (now view)) k (range .region) first × Ascends (viewOf (now view)) k ⌝ }
+    ensures { λ r. ⌜ r ≡ pairsOk (viewOf (now (view .entry))) k ⌝ }
 {
     if k == 0 {
         return true;

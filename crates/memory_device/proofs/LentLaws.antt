@@ -9,21 +9,21 @@ use lib.Dec.{eqb}
 use lib.ListN.{length, take, drop, set}
 use borrow.Author.Tests.{eq-eqb, ne-eqb, eqb-true, eqb-false}
 use Rattle.region_map.specs.Reply.{Reply, accepted, plain, passes}
-use Rattle.region_map.proofs.Bools.{never, and-off}
+use Rattle.region_map.proofs.Bools.{and-off}
 use Rattle.device_words.specs.Table.{bitAt, within}
-use Rattle.device_words.specs.Device.{MemoryDevice, pinnedIn, isPinned, noBlocks, withPlugged, withPins, withPin, fresh, deviceOk, Valid}
+use Rattle.device_words.specs.Device.{MemoryDevice, isPinned, noBlocks, withPlugged, withPins, withPin, fresh, deviceOk}
+use Rattle.device_words.specs.Contracts.{Sound, Responds}
 use Rattle.device_words.specs.Request.{plug, unplug, unplugAll, blockOf, withRun, acknowledged, answered, isAck, changedBy, requestOf, carriedOut, Outcome as Carried}
 use Rattle.device_words.specs.Words.{isDevice, deviceAt, deviceOf, deviceWords}
 use Rattle.device_words.specs.declared.request.Request.{Request}
 use Rattle.device_words.specs.declared.request.Response.{Response}
-use Rattle.device_words.proofs.TableLaws.{table-length, past-bit}
-use Rattle.map_records.proofs.Order.{side}
-use Rattle.device_words.proofs.DeviceWords.{device-at, device-none, halves, plug-stored, pins-stored, words-length, record-back, plugged-length, pins-length, ok-length, ok-device, not-device}
+use Rattle.device_words.proofs.TableLaws.{table-length}
+use Rattle.device_words.proofs.DeviceWords.{device-at, device-none, halves, record-back, plugged-length, pins-length, ok-length, ok-device, not-device}
 use Rattle.device_words.proofs.RuleLaws.{device-valid}
 use Rattle.memory_device.specs.Record.{Outcome, hostReply}
 use Rattle.memory_device.specs.Host.{refusal, done, ifOk, withRequested, configurationOf, Read, configuredInto}
 use Rattle.memory_device.specs.Request.{carriedInto}
-use Rattle.memory_device.specs.Lent.{leaves, Left}
+use Rattle.memory_device.specs.Lent.{leaves, Left, Reads, Carries}
 use Rattle.memory_device.specs.declared.device.HostAnswer.{HostAnswer}
 use Rattle.memory_device.specs.declared.device.HostAnswer.the-variants.{Done, Record}
 
@@ -36,8 +36,8 @@ module _ (w : List ℕ) (x : Bool) (e : x ≡ (isDevice w && deviceOk (deviceOf 
     pub sound-length : length w ≡ 37
     sound-length = ok-length w x e h
 
-    pub sound : Valid (deviceAt w)
-    sound = rw (device-at w sound-length) at (device-valid (deviceOf w) (ok-device w x e h))
+    pub sound : Sound w
+    sound = record { size = sound-length; valid = rw (device-at w sound-length) at (device-valid (deviceOf w) (ok-device w x e h)) }
 
     module _ (fault : MemoryDevice → Bool) (k : ℕ) (next : MemoryDevice → MemoryDevice) where
       pub left-fault : (a : HostAnswer) → hostReply a ≡ plain k → fault (deviceAt w) ≡ true
@@ -72,16 +72,6 @@ requested-stored (a ∷ b ∷ c ∷ []) usable size l p = absurd (omega arith)
 requested-stored (a ∷ b ∷ c ∷ d ∷ []) usable size l p = absurd (omega arith)
 requested-stored (a ∷ b ∷ c ∷ d ∷ e ∷ v) usable size l p =
     ap (λ (u : ℕ). a ∷ b ∷ c ∷ u ∷ size ∷ v) p ∙ ap (λ (r : List ℕ). a ∷ b ∷ c ∷ max d size ∷ size ∷ r) (sym (halves v (omega arith)))
-
-pub cleared-stored : (w t u : List ℕ) → length w ≡ 37 → t ≡ noBlocks → u ≡ noBlocks
-    → take 21 (take 5 w ++ (t ++ drop 16 (drop 5 w))) ++ (u ++ drop 16 (drop 21 (take 5 w ++ (t ++ drop 16 (drop 5 w))))) ≡ deviceWords (fresh (deviceAt w))
-cleared-stored w t u l p q =
-    let d = withPlugged (deviceAt w) noBlocks in
-    let size = words-length d refl (pins-length w l) in
-    ap (λ (x : List ℕ). take 21 x ++ (u ++ drop 16 (drop 21 x))) (ap (λ (s : List ℕ). take 5 w ++ (s ++ drop 16 (drop 5 w))) p ∙ plug-stored w noBlocks l)
-    ∙ ap (λ (s : List ℕ). take 21 (deviceWords d) ++ (s ++ drop 16 (drop 21 (deviceWords d)))) q
-    ∙ pins-stored (deviceWords d) noBlocks size
-    ∙ ap (λ (m : MemoryDevice). deviceWords (withPins m noBlocks)) (sym (device-at (deviceWords d) size) ∙ record-back d refl (pins-length w l))
 
 -- ---- both tables of a record have sixteen words
 pub record Whole (d : MemoryDevice) : Type 0 where
@@ -154,23 +144,16 @@ whole-changed d r x h = go (isAck x)
 
 -- ---- a request
 module _ (w s out : List ℕ) (x : Bool) (e : x ≡ (isDevice w && deviceOk (deviceOf w))) where
-  abbrev Carries : HostAnswer → List ℕ → List ℕ → Type 0
-  Carries a out′ w′ =
-      (hostReply a ≡ carriedInto (deviceOf w) s out .reply) × (out′ ≡ carriedInto (deviceOf w) s out .response)
-      × (w′ ≡ leaves (carriedInto (deviceOf w) s out .reply) (carriedInto (deviceOf w) s out .device) w)
-
-  pub carries-done : length out ≡ 10 → x ≡ true → (out′ w′ : List ℕ) → out′ ≡ carriedOut (deviceOf w) (requestOf s) .response
-      → w′ ≡ deviceWords (carriedOut (deviceOf w) (requestOf s) .device) → Carries Done out′ w′
+  pub carries-done : length out ≡ 10 → x ≡ true → (out′ response w′ : List ℕ) → out′ ≡ response → Responds w s response w′
+      → Carries (carriedInto (deviceOf w) s out) w Done out′ w′
   unfolding carriedInto
-  carries-done l h out′ w′ p q = rw (eq-eqb (length out) 10 l, ok-device w x e h) (refl, p, q)
+  carries-done l h out′ response w′ p q = rw (eq-eqb (length out) 10 l, ok-device w x e h) (refl, p ∙ q .0, q .1)
 
-  pub carries-27 : x ≡ false → Carries Record out w
+  pub carries-27 : x ≡ false → Carries (carriedInto (deviceOf w) s out) w Record out w
   unfolding carriedInto
   carries-27 h = rw (not-device w x e h, and-off (eqb (length out) 10)) (refl, refl, refl)
 
-pub carries-length : (w s out : List ℕ) → (length out ≡ 10 → ⊥)
-    → (hostReply Record ≡ carriedInto (deviceOf w) s out .reply) × (out ≡ carriedInto (deviceOf w) s out .response)
-    × (w ≡ leaves (carriedInto (deviceOf w) s out .reply) (carriedInto (deviceOf w) s out .device) w)
+pub carries-length : (w s out : List ℕ) → (length out ≡ 10 → ⊥) → Carries (carriedInto (deviceOf w) s out) w Record out w
 unfolding carriedInto
 carries-length w s out n = rw (ne-eqb (length out) 10 n) (refl, refl, refl)
 
@@ -184,12 +167,11 @@ carried-fair d s out h = go (eqb (length out) 10 && deviceOk d)
     go false = inl (refl, refl)
 
 pub carried-value : (d : MemoryDevice) (w w′ s out out′ : List ℕ) (a : HostAnswer) (m : MemoryDevice) → deviceOf w ≡ d → m ≡ deviceOf w′
-    → (hostReply a ≡ carriedInto (deviceOf w) s out .reply) × (out′ ≡ carriedInto (deviceOf w) s out .response)
-    × (w′ ≡ leaves (carriedInto (deviceOf w) s out .reply) (carriedInto (deviceOf w) s out .device) w)
+    → Carries (carriedInto (deviceOf w) s out) w a out′ w′
     → _≡_ {A = Carried} (record { reply = hostReply a; response = out′; device = m }) (carriedInto d s out)
 carried-value d w w′ s out out′ a m e g l =
     let o = carriedInto d s out in
-    let h : (hostReply a ≡ o .reply) × (out′ ≡ o .response) × (w′ ≡ leaves (o .reply) (o .device) w) = rw e at l in
+    let h : Carries o w a out′ w′ = rw e at l in
     parts (h .0) (h .1) (g ∙ read-back d (o .reply) (o .device) w w′ e (h .2) (carried-fair d s out (rw e at (whole-words w))))
   where
     parts : {r q : Reply} {b c : List ℕ} {x y : MemoryDevice} → r ≡ q → b ≡ c → x ≡ y
@@ -199,30 +181,26 @@ carried-value d w w′ s out out′ a m e g l =
 -- ---- the configuration
 module _ (w out : List ℕ) (x : Bool) (e : x ≡ (isDevice w && deviceOk (deviceOf w))) where
   pub configures : length out ≡ 56 → x ≡ true → (out′ : List ℕ) → out′ ≡ configurationOf (deviceAt w)
-      → (accepted ≡ configuredInto (deviceOf w) out .reply) × (out′ ≡ configuredInto (deviceOf w) out .bytes)
+      → Reads (configuredInto (deviceOf w) out) Done out′
   unfolding configuredInto
   configures l h out′ p =
       rw (eq-eqb (length out) 56 l, ok-device w x e h) (refl, p ∙ ap configurationOf (sym (device-at w (ok-length w x e h))))
 
-  pub configures-27 : x ≡ false → (plain 27 ≡ configuredInto (deviceOf w) out .reply) × (out ≡ configuredInto (deviceOf w) out .bytes)
+  pub configures-27 : x ≡ false → Reads (configuredInto (deviceOf w) out) Record out
   unfolding configuredInto
   configures-27 h = rw (not-device w x e h, and-off (eqb (length out) 56)) (refl, refl)
 
-pub configures-length : (w out : List ℕ) → (length out ≡ 56 → ⊥) → (plain 27 ≡ configuredInto (deviceOf w) out .reply) × (out ≡ configuredInto (deviceOf w) out .bytes)
+pub configures-length : (w out : List ℕ) → (length out ≡ 56 → ⊥) → Reads (configuredInto (deviceOf w) out) Record out
 unfolding configuredInto
 configures-length w out n = rw (ne-eqb (length out) 56 n) (refl, refl)
 
 pub configured-value : (d : MemoryDevice) (w out out′ : List ℕ) (a : HostAnswer) → deviceOf w ≡ d
-    → (hostReply a ≡ configuredInto (deviceOf w) out .reply) × (out′ ≡ configuredInto (deviceOf w) out .bytes)
+    → Reads (configuredInto (deviceOf w) out) a out′
     → _≡_ {A = Read} (record { reply = hostReply a; bytes = out′ }) (configuredInto d out)
 configured-value d w out out′ a e l =
     let o = configuredInto d out in
-    let h : (hostReply a ≡ o .reply) × (out′ ≡ o .bytes) = rw e at l in
+    let h : Reads o a out′ = rw e at l in
     parts (h .0) (h .1)
   where
     parts : {r q : Reply} {b c : List ℕ} → r ≡ q → b ≡ c → _≡_ {A = Read} (record { reply = r; bytes = b }) (record { reply = q; bytes = c })
     parts p q = λ i. record { reply = p i; bytes = q i }
-
--- a pinned block is in the table
-pub pin-room : (pins : List ℕ) (b : ℕ) → length pins ≡ 16 → pinnedIn pins b ≡ true → b < 1024
-pin-room pins b l h = ⊎-elim (λ lt. lt) (λ ge. absurd (never (sym h ∙ past-bit pins b l ge))) (side b 1024)

@@ -1,5 +1,4 @@
 pub mod Answers
-mod CopyLaws
 pub mod Kept
 mod LentLaws
 pub mod Plugged

@@ -6,7 +6,9 @@ use Prim.Native.Nat.{ℕ}
 use Rattle.region_map.specs.Reply.{Reply, passes}
 use Rattle.device_words.specs.Device.{MemoryDevice}
 use Rattle.device_words.specs.Words.{deviceWords}
+use Rattle.device_words.specs.Request as request
 use Rattle.memory_device.specs.Record.{Outcome, hostReply}
+use Rattle.memory_device.specs.Host.{Read}
 use Rattle.memory_device.specs.declared.device.HostAnswer.{HostAnswer}
 
 -- the words of the next state, or on a refusal those that were given
@@ -17,3 +19,11 @@ leaves reply d w = cond (passes reply) (deviceWords d) w
 pub record Left (o : Outcome) (w : List ℕ) (a : HostAnswer) (w′ : List ℕ) : Type 0 where
   pub reply : hostReply a ≡ o .reply
   pub words : w′ ≡ leaves (o .reply) (o .device) w
+
+-- a request on the words w answers a, and leaves x in the response and w′ in the words
+abbrev pub Carries : request.Outcome → List ℕ → HostAnswer → List ℕ → List ℕ → Type 0
+Carries o w a x w′ = (hostReply a ≡ o .reply) × (x ≡ o .response) × (w′ ≡ leaves (o .reply) (o .device) w)
+
+-- a reading of the configuration answers a, and leaves x in the bytes
+abbrev pub Reads : Read → HostAnswer → List ℕ → Type 0
+Reads o a x = (hostReply a ≡ o .reply) × (x ≡ o .bytes)

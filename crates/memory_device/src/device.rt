@@ -1,11 +1,9 @@
 // The device's record, and the 37 words in which it lies.
 ghost use mathlib.Core.Path.{_≡_};
-ghost use Prim.Native.Nat.{_+_, _≤_};
-ghost use lib.ListN.{length, take, drop};
-ghost use lib.Seq.{sets};
+ghost use lib.ListN.{length};
 ghost use Rattle.region_map.specs.Reply.{numberOf};
-ghost use Rattle.device_words.specs.Device.{noDevice};
-ghost use Rattle.device_words.specs.Words.{deviceOf, deviceWords};
+ghost use Rattle.device_words.specs.Device.{noDevice, withTables};
+ghost use Rattle.device_words.specs.Words.{deviceAt, deviceOf, deviceWords};
 ghost use Rattle.memory_device.specs.Record.{recordOf, hostReply};
 use device_words::words::ADDR;
 use device_words::words::BLOCK_SIZE;
@@ -16,6 +14,7 @@ use device_words::words::REQUESTED_SIZE;
 use device_words::words::USABLE_SIZE;
 use device_words::words::WORDS;
 use map_records::map::GuestAddress;
+use map_records::words::copy_words;
 
 // The memory device. Block b is plugged, or pinned, where bit b % 64 of word b / 64 is set.
 pub struct MemoryDevice {
@@ -54,28 +53,23 @@ pub fn number_of(answer: HostAnswer) -> u64
     }
 }
 
-fn put_table(words: &mut [u64], at: usize, table: [u64; 16])
-    requires { ⌜ at + 16 ≤ length (now words) ⌝ }
-    ensures { λ _. ⌜ now (words .exit) ≡ sets (now (words .entry)) at table ⌝ }
-{
-    let mut i: usize = 0;
-    while i < 16 {
-        words[at + i] = table[i];
-        i += 1;
-    }
-}
-
-fn table_at(words: &[u64], at: usize) -> [u64; 16]
-    requires { ⌜ at + 16 ≤ length (now words) ⌝ }
-    ensures { λ r. ⌜ r ≡ take 16 (drop at (now (words .entry))) ⌝ }
+// The sixteen words of a table.
+fn table_of(words: &[u64]) -> [u64; 16]
+    requires { ⌜ length (now words) ≡ 16 ⌝ }
+    ensures { λ r. ⌜ r ≡ now (words .entry) ⌝ }
 {
     let mut out = [0u64; 16];
-    let mut i: usize = 0;
-    while i < 16 {
-        out[i] = words[at + i];
-        i += 1;
-    }
+    copy_words(&mut out, words);
     out
+}
+
+// Both tables into a device's words.
+fn put_tables(words: &mut [u64], plugged: [u64; 16], pinned: [u64; 16])
+    requires { ⌜ length (now words) ≡ 37 ⌝ }
+    ensures { λ _. ⌜ now (words .exit) ≡ deviceWords (withTables (deviceAt (now (words .entry))) plugged pinned) ⌝ }
+{
+    copy_words(&mut words[PLUGGED..PINNED], &plugged);
+    copy_words(&mut words[PINNED..WORDS], &pinned);
 }
 
 // The words of a record.
@@ -90,8 +84,7 @@ pub fn words_of(device: MemoryDevice) -> [u64; 37]
     words[REGION_SIZE] = device.region_size;
     words[USABLE_SIZE] = device.usable_size;
     words[REQUESTED_SIZE] = device.requested_size;
-    put_table(&mut words, PLUGGED, plugged);
-    put_table(&mut words, PINNED, pinned);
+    put_tables(&mut words, plugged, pinned);
     words
 }
 
@@ -100,8 +93,8 @@ pub fn device_of(words: &[u64]) -> MemoryDevice
     ensures { λ r. ⌜ recordOf r ≡ deviceOf (now (words .entry)) ⌝ }
 {
     if words.len() == WORDS {
-        let plugged = table_at(words, PLUGGED);
-        let pinned = table_at(words, PINNED);
+        let plugged = table_of(&words[PLUGGED..PINNED]);
+        let pinned = table_of(&words[PINNED..WORDS]);
         return MemoryDevice {
             block_size: words[BLOCK_SIZE],
             addr: GuestAddress(words[ADDR]),

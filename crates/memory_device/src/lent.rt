@@ -1,23 +1,22 @@
 // The host's calls on a device's words where they lie. Each judges 27 first; a refusal leaves the
 // words as they were, and a slice of another length is refused with 27.
 ghost use mathlib.Core.Path.{_≡_};
-ghost use lib.ListN.{length};
 ghost use Rattle.device_words.specs.Words.{deviceOf};
-ghost use Rattle.memory_device.specs.Record.{hostReply};
 ghost use Rattle.memory_device.specs.Host.{resized, pinned, unpinned, wasReset, configuredInto, byteBlock, byteOf};
 ghost use Rattle.memory_device.specs.Request.{carriedInto};
-ghost use Rattle.memory_device.specs.Lent.{Left, leaves};
+ghost use Rattle.memory_device.specs.Lent.{Left, Reads, Carries};
 use crate::device::HostAnswer;
 use crate::state::can_pin;
-use crate::state::can_unpin;
 use crate::state::clear_tables;
-use crate::state::put_pin;
 use crate::state::put_values;
 use crate::state::set_requested;
 use crate::state::size_fault;
 use device_words::answer::respond;
+use device_words::bytes::copy_bytes;
 use device_words::device::BlockNumber;
 use device_words::device::block_of;
+use device_words::pins::is_pinned;
+use device_words::pins::set_pin;
 use device_words::rules::device_ok;
 use device_words::words::block_size;
 use device_words::words::region_size;
@@ -63,7 +62,7 @@ pub fn pin(device: &mut [u64], block: u64) -> HostAnswer
     let b = block as usize;
     if device_ok(device) {
         if can_pin(device, b) {
-            put_pin(device, b, true);
+            set_pin(device, b, true);
             return HostAnswer::Done;
         }
         return HostAnswer::Pin;
@@ -77,8 +76,8 @@ pub fn unpin(device: &mut [u64], block: u64) -> HostAnswer
 {
     let b = block as usize;
     if device_ok(device) {
-        if can_unpin(device, b) {
-            put_pin(device, b, false);
+        if is_pinned(device, b) {
+            set_pin(device, b, false);
             return HostAnswer::Done;
         }
         return HostAnswer::Pin;
@@ -88,8 +87,7 @@ pub fn unpin(device: &mut [u64], block: u64) -> HostAnswer
 
 // The configuration that the guest reads, into 56 bytes.
 pub fn configuration(device: &[u64], bytes: &mut [u8]) -> HostAnswer
-    ensures { λ r. ⌜ (hostReply r ≡ configuredInto (deviceOf (now (device .entry))) (now (bytes .entry)) .reply)
-        × (now (bytes .exit) ≡ configuredInto (deviceOf (now (device .entry))) (now (bytes .entry)) .bytes) ⌝ }
+    ensures { λ r. ⌜ Reads (configuredInto (deviceOf (now (device .entry))) (now (bytes .entry))) r (now (bytes .exit)) ⌝ }
 {
     if bytes.len() == 56 {
         if device_ok(device) {
@@ -100,28 +98,15 @@ pub fn configuration(device: &[u64], bytes: &mut [u8]) -> HostAnswer
     HostAnswer::Record
 }
 
-fn put_response(out: &mut [u8], response: [u8; 10])
-    requires { ⌜ length (now out) ≡ 10 ⌝ }
-    ensures { λ _. ⌜ now (out .exit) ≡ response ⌝ }
-{
-    let mut i: usize = 0;
-    while i < 10 {
-        out[i] = response[i];
-        i += 1;
-    }
-}
-
 // A request carried out; its response goes into 10 bytes.
 pub fn carry_out(device: &mut [u64], request: [u8; 24], response: &mut [u8]) -> HostAnswer
-    ensures { λ r. ⌜ (hostReply r ≡ carriedInto (deviceOf (now (device .entry))) request (now (response .entry)) .reply)
-        × (now (response .exit) ≡ carriedInto (deviceOf (now (device .entry))) request (now (response .entry)) .response)
-        × (now (device .exit) ≡ leaves (carriedInto (deviceOf (now (device .entry))) request (now (response .entry)) .reply)
-        (carriedInto (deviceOf (now (device .entry))) request (now (response .entry)) .device) (now (device .entry))) ⌝ }
+    ensures { λ r. ⌜ Carries (carriedInto (deviceOf (now (device .entry))) request (now (response .entry)))
+        (now (device .entry)) r (now (response .exit)) (now (device .exit)) ⌝ }
 {
     if response.len() == 10 {
         if device_ok(device) {
             let bytes = respond(device, request);
-            put_response(response, bytes);
+            copy_bytes(response, &bytes);
             return HostAnswer::Done;
         }
     }

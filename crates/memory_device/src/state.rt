@@ -3,15 +3,16 @@ ghost use mathlib.Core.Path.{_≡_};
 ghost use mathlib.Core.Bool.{true, not};
 ghost use Prim.Native.Nat.{_<_, max};
 ghost use lib.ListN.{length};
-ghost use Rattle.device_words.specs.Device.{Valid, isPinned, withPins, withPin, fresh};
+ghost use Rattle.device_words.specs.Device.{fresh};
+ghost use Rattle.device_words.specs.Contracts.{Sound};
 ghost use Rattle.device_words.specs.Words.{deviceAt, deviceWords};
 ghost use Rattle.memory_device.specs.Host.{sizeFault, withRequested, pinFault, configurationOf};
 use device_words::bytes::put_configuration;
 use device_words::pins::is_pinned;
-use device_words::pins::set_pin;
+use device_words::plugs::blocks_in;
+use device_words::plugs::is_plugged;
 use device_words::state::plugged_size;
 use device_words::table::clear;
-use device_words::table::is_in;
 use device_words::words::ADDR;
 use device_words::words::BLOCK_SIZE;
 use device_words::words::PINNED;
@@ -30,7 +31,7 @@ fn larger(a: u64, b: u64) -> u64
 
 // Is a requested size refused?
 pub fn size_fault(device: &[u64], size: u64) -> bool
-    requires { ⌜ (length (now device) ≡ 37) × Valid (deviceAt (now device)) ⌝ }
+    requires { ⌜ Sound (now device) ⌝ }
     ensures { λ r. ⌜ r ≡ sizeFault (deviceAt (now (device .entry))) size ⌝ }
 {
     (size % device[BLOCK_SIZE] != 0) | (device[REGION_SIZE] < size)
@@ -57,36 +58,17 @@ pub fn clear_tables(device: &mut [u64])
 
 // Is the block in the region, plugged and not pinned?
 pub fn can_pin(device: &[u64], b: usize) -> bool
-    requires { ⌜ (length (now device) ≡ 37) × Valid (deviceAt (now device)) ⌝ }
+    requires { ⌜ Sound (now device) ⌝ }
     ensures value { λ r. ⌜ r ≡ not (pinFault (deviceAt (now (device .entry))) b) ⌝ }
     ensures room { λ r. ⌜ (r ≡ true → b < 1024) ⌝ }
 {
-    let blocks = (device[REGION_SIZE] / device[BLOCK_SIZE]) as usize;
-    let plugged = &device[PLUGGED..PINNED];
-    let pins = &device[PINNED..WORDS];
-    (b < blocks) & (is_in(plugged, b) & !is_pinned(pins, b))
-}
-
-// Is the block pinned?
-pub fn can_unpin(device: &[u64], b: usize) -> bool
-    requires { ⌜ length (now device) ≡ 37 ⌝ }
-    ensures value { λ r. ⌜ r ≡ isPinned (deviceAt (now (device .entry))) b ⌝ }
-    ensures room { λ r. ⌜ (r ≡ true → b < 1024) ⌝ }
-{
-    is_pinned(&device[PINNED..WORDS], b)
-}
-
-// A block is pinned, or no longer.
-pub fn put_pin(device: &mut [u64], b: usize, on: bool)
-    requires { ⌜ (length (now device) ≡ 37) × (b < 1024) ⌝ }
-    ensures { λ _. ⌜ now (device .exit) ≡ deviceWords (withPins (deviceAt (now (device .entry))) (withPin (deviceAt (now (device .entry)) .pinned) b on)) ⌝ }
-{
-    set_pin(&mut device[PINNED..WORDS], b, on);
+    let blocks = blocks_in(device, device[REGION_SIZE]);
+    (b < blocks) & (is_plugged(device, b) & !is_pinned(device, b))
 }
 
 // The configuration's bytes.
 pub fn put_values(device: &[u64], out: &mut [u8])
-    requires { ⌜ (length (now device) ≡ 37) × Valid (deviceAt (now device)) × (length (now out) ≡ 56) ⌝ }
+    requires { ⌜ Sound (now device) × (length (now out) ≡ 56) ⌝ }
     ensures { λ _. ⌜ now (out .exit) ≡ configurationOf (deviceAt (now (device .entry))) ⌝ }
 {
     let addr = GuestAddress(device[ADDR]);

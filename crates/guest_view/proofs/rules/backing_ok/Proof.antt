@@ -19,12 +19,6 @@ returns-2 c = sym (backing-other (c .before .before .before .args .range) (c .be
 returns-3 : tie.Need-returns-3
 returns-3 c = sym (backing-past (c .before .before .before .before .args .range) (c .before .before .before .before .args .memory) (c .before .before .before .before .args .region) (c .before .if3 .left) (omega (arith, c .if4 .taken, c .before .before .before .before .pre .0)))
 
-add-result : tie.Need-add-result
-add-result c = search needs
-
-sum-within-requires : tie.Need-sum-within-requires
-sum-within-requires c κs = search needs
-
 returns-4 : tie.Need-returns-4
 returns-4 c =
     let s = c .before .before .before .args in
@@ -34,4 +28,4 @@ returns-4 c =
     (λ w. sym (backing-ram (s .range) (s .memory) (s .region) (w .left))) (c .before .if2 .came)
 
 pub backing-ok-spec : {M : Type 1} → statement M
-backing-ok-spec = tie.close (tie.spec returns returns-2 returns-3 add-result sum-within-requires returns-4)
+backing-ok-spec = tie.close (tie.spec returns returns-2 returns-3 (λ c. search needs) (λ c κs. search needs) returns-4)

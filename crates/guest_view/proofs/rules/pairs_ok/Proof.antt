@@ -33,7 +33,7 @@ above c = omega (arith, c .if2 .left, ap (λ (r : FlatRange). r .first .0) (c .b
 
 returns-3 : tie.Need-returns-3
 returns-3 c =
-    sym (pairs-new (viewOf (c .before .before .before .before .before .before .before .args .view .now)) (c .before .before .before .before .before .before .before .args .k) (c .before .before .before .before .before .before .before .pre .1 .1 .1 .0) (c .before .before .before .before .before .before .before .pre .1 .1 .1 .1) (above (c .before)) (c .before .before .before .before .before .before .before .args .range .region) (c .before .before .before .before .before .before .before .args .first) (c .before .before .before .before .before .before .before .pre .1 .1 .0)
+    sym (pairs-new (viewOf (c .before .before .before .before .before .before .before .args .view .now)) (c .before .before .before .before .before .before .before .args .k) (c .before .before .before .before .before .before .before .pre .1 .1 .1 .apart) (c .before .before .before .before .before .before .before .pre .1 .1 .1 .order) (above (c .before)) (c .before .before .before .before .before .before .before .args .range .region) (c .before .before .before .before .before .before .before .args .first) (c .before .before .before .before .before .before .before .pre .1 .1 .0)
     (sym (ap (λ (r : FlatRange). r .region) (c .before .before .before .before .before .before .before .pre .1 .0 .1))) (c .if3 .taken))
 
 sub-range-at-2 : tie.Need-sub-range-at-2
@@ -47,7 +47,7 @@ returns-4 c =
     let s = c .before .before .before .before .before .before .before .before .before .before .before .before in
     let f = c .before .before .before .before .range-at2 .result in
     ap (λ (r : FlatRange). eqb (f .kind) (r .kind) && eqb (f .base) (r .base)) (s .pre .1 .0 .1)
-    ∙ pairs-known (viewOf (s .args .view .now)) (s .args .k) (s .pre .1 .1 .1 .0) (s .pre .1 .1 .1 .1) (above (c .before .before .before .before .before .before)) (s .args .range .region) (s .args .first) (s .pre .1 .1 .0)
+    ∙ pairs-known (viewOf (s .args .view .now)) (s .args .k) (s .pre .1 .1 .1 .apart) (s .pre .1 .1 .1 .order) (above (c .before .before .before .before .before .before)) (s .args .range .region) (s .args .first) (s .pre .1 .1 .0)
     (sym (ap (λ (r : FlatRange). r .region) (s .pre .1 .0 .1))) (omega (arith, c .before .before .before .before .before .if3 .left)) f (c .before .before .before .before .range-at2 .ensures)
 
 pub pairs-ok-spec : {M : Type 1} → statement M

@@ -86,7 +86,7 @@ pairs-ok-requires c κs =
       omega (arith, c .before .before .before .before .before .before .before .if1 .left),
       (
         (omega (arith, c .before .before .before .loop-test .taken, l .inv .1), c .before .before .range-at .ensures),
-        (l .inv .3 .each (c .before .before .range-at .result .region) (small c), (entries-ascend v (a .memory) (a .region) (l .k) (l .inv .2), entries-order v (a .memory) (a .region) (l .k) (l .inv .2))),
+        (l .inv .3 .each (c .before .before .range-at .result .region) (small c), record { apart = entries-ascend v (a .memory) (a .region) (l .k) (l .inv .2); order = entries-order v (a .memory) (a .region) (l .k) (l .inv .2) }),
       ),
     )
 

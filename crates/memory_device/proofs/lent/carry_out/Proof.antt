@@ -1,5 +1,4 @@
 -- `memory_device::lent::carry_out` meets its contract. Assumes nothing.
-use mathlib.Core.Path.{_∙_}
 use Rattle.device_words.specs.Words.{deviceOf}
 use Rattle.device_words.proofs.DeviceWords.{ok-device}
 use Rattle.device_words.proofs.RuleLaws.{device-valid, valid-sizes}
@@ -15,21 +14,16 @@ respond-requires : tie.Need-respond-requires
 respond-requires c κs = let w = c .before .before .before .before .before .before .before .args .device .now in
     (sound-length (c .before .before .before .before .before .before .before .args .device .now) _ (c .before .before .device-ok .ensures) (c .before .if2 .taken), valid-sizes (deviceOf w) (device-valid (deviceOf w) (ok-device w _ (c .before .before .device-ok .ensures) (c .before .if2 .taken))))
 
-put-response-requires : tie.Need-put-response-requires
-put-response-requires c κs = search needs
-
-same-length : tie.Need-same-length
-same-length c = search needs
-
-same-length-2 : tie.Need-same-length-2
-same-length-2 c = search needs
+copy-bytes-requires : tie.Need-copy-bytes-requires
+copy-bytes-requires c κs = search needs
 
 returns : tie.Need-returns
-returns c = let a = c .before .before .before .before .before .before .before .before .before .before .before .before .before .before .args in
-    carries-done (a .device .now) (a .request) (a .response .now) _ (c .before .before .before .before .before .before .before .before .before .device-ok .ensures) (c .before .before .before .before .before .before .before .before .before .before .before .if1 .taken) (c .before .before .before .before .before .before .before .before .if2 .taken) _ _ (c .before .before .put-response .ensures ∙ c .before .before .before .before .before .before .respond .ensures .0) (c .before .before .before .before .before .before .respond .ensures .1)
-
-same-length-3 : tie.Need-same-length-3
-same-length-3 c = search needs
+returns c =
+    let p = c .before .before .before .before .before .before .before in
+    let ok = p .before .before .before in
+    let if1 = ok .before .before in
+    let a = if1 .before .before .before .args in
+    carries-done (a .device .now) (a .request) (a .response .now) _ (ok .device-ok .ensures) (if1 .if1 .taken) (p .before .before .if2 .taken) _ _ _ (c .before .before .copy-bytes .ensures) (p .respond .ensures)
 
 returns-2 : tie.Need-returns-2
 returns-2 c = let a = c .before .before .before .before .before .before .args in carries-27 (a .device .now) (a .request) (a .response .now) _ (c .before .device-ok .ensures) (c .if2 .left)
@@ -43,10 +37,11 @@ carry-out-spec =
     (tie.spec
     device-ok-requires
     respond-requires
-    put-response-requires
-    same-length
-    same-length-2
+    (λ c. search needs)
+    copy-bytes-requires
+    (λ c. search needs)
+    (λ c. search needs)
     returns
-    same-length-3
+    (λ c. search needs)
     returns-2
     returns-3)

@@ -1,5 +1,5 @@
 -- `memory_device::lent::configuration` meets its contract. Assumes nothing.
-use Rattle.memory_device.proofs.LentLaws.{sound, sound-length, configures, configures-27, configures-length}
+use Rattle.memory_device.proofs.LentLaws.{sound, configures, configures-27, configures-length}
 use borrow.Author.Needs.{needs}
 use Rattle.memory_device.proofs.lent.configuration.Statement.{statement}
 use Rattle.memory_device.proofs.lent.configuration.Tie as tie
@@ -8,7 +8,7 @@ device-ok-requires : tie.Need-device-ok-requires
 device-ok-requires c κs = search needs
 
 put-values-requires : tie.Need-put-values-requires
-put-values-requires c κs = (sound-length (c .before .before .before .before .before .before .args .device .now) _ (c .before .before .device-ok .ensures) (c .before .if2 .taken), sound (c .before .before .before .before .before .before .args .device .now) _ (c .before .before .device-ok .ensures) (c .before .if2 .taken), c .before .before .before .if1 .taken)
+put-values-requires c κs = (sound (c .before .before .before .before .before .before .args .device .now) _ (c .before .before .device-ok .ensures) (c .before .if2 .taken), c .before .before .before .if1 .taken)
 
 same-length : tie.Need-same-length
 same-length c = search needs

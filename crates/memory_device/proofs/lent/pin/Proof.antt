@@ -15,10 +15,10 @@ device-ok-requires : tie.Need-device-ok-requires
 device-ok-requires c κs = search needs
 
 can-pin-requires : tie.Need-can-pin-requires
-can-pin-requires c κs = (sound-length (c .before .before .before .before .before .args .device .now) _ (c .before .before .device-ok .ensures) (c .before .if1 .taken), sound (c .before .before .before .before .before .args .device .now) _ (c .before .before .device-ok .ensures) (c .before .if1 .taken))
+can-pin-requires c κs = sound (c .before .before .before .before .before .args .device .now) _ (c .before .before .device-ok .ensures) (c .before .if1 .taken)
 
-put-pin-requires : tie.Need-put-pin-requires
-put-pin-requires c κs = (sound-length (c .before .before .before .before .before .before .before .before .args .device .now) _ (c .before .before .before .before .before .device-ok .ensures) (c .before .before .before .before .if1 .taken), c .before .before .can-pin .ensures .1 (c .before .if2 .taken))
+set-pin-requires : tie.Need-set-pin-requires
+set-pin-requires c κs = (sound-length (c .before .before .before .before .before .before .before .before .args .device .now) _ (c .before .before .before .before .before .device-ok .ensures) (c .before .before .before .before .if1 .taken), c .before .before .can-pin .ensures .1 (c .before .if2 .taken))
 
 same-length : tie.Need-same-length
 same-length c = search needs
@@ -26,7 +26,7 @@ same-length c = search needs
 returns : tie.Need-returns
 unfolding pinned
 returns c = let a = c .before .before .before .before .before .before .before .before .before .before .before .args in
-    left-done (a .device .now) _ (c .before .before .before .before .before .before .before .before .device-ok .ensures) (c .before .before .before .before .before .before .before .if1 .taken) (λ (d : MemoryDevice). pinFault d (a .block)) 15 (λ (d : MemoryDevice). withPins d (withPin (d .pinned) (a .block) true)) _ (not-true (pinFault (deviceAt (a .device .now)) (a .block)) (sym (c .before .before .before .before .before .can-pin .ensures .0) ∙ c .before .before .before .before .if2 .taken)) (c .before .before .put-pin .ensures)
+    left-done (a .device .now) _ (c .before .before .before .before .before .before .before .before .device-ok .ensures) (c .before .before .before .before .before .before .before .if1 .taken) (λ (d : MemoryDevice). pinFault d (a .block)) 15 (λ (d : MemoryDevice). withPins d (withPin (d .pinned) (a .block) true)) _ (not-true (pinFault (deviceAt (a .device .now)) (a .block)) (sym (c .before .before .before .before .before .can-pin .ensures .0) ∙ c .before .before .before .before .if2 .taken)) (c .before .before .set-pin .ensures)
 
 same-length-2 : tie.Need-same-length-2
 same-length-2 c = search needs
@@ -49,7 +49,7 @@ pin-spec =
     (tie.spec
     device-ok-requires
     can-pin-requires
-    put-pin-requires
+    set-pin-requires
     same-length
     returns
     same-length-2

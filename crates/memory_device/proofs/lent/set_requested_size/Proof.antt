@@ -12,7 +12,7 @@ device-ok-requires : tie.Need-device-ok-requires
 device-ok-requires c κs = search needs
 
 size-fault-requires : tie.Need-size-fault-requires
-size-fault-requires c κs = (sound-length (c .before .before .before .before .before .args .device .now) _ (c .before .before .device-ok .ensures) (c .before .if1 .taken), sound (c .before .before .before .before .before .args .device .now) _ (c .before .before .device-ok .ensures) (c .before .if1 .taken))
+size-fault-requires c κs = sound (c .before .before .before .before .before .args .device .now) _ (c .before .before .device-ok .ensures) (c .before .if1 .taken)
 
 same-length : tie.Need-same-length
 same-length c = search needs

@@ -1,12 +1,10 @@
 -- `memory_device::lent::unpin` meets its contract. Assumes nothing.
-use mathlib.Core.Bool.{true, false, not}
+use mathlib.Core.Bool.{false, not}
 use mathlib.Core.Path.{refl, sym, ap, _∙_}
-use borrow.Author.Tests.{not-true, not-false}
 use Rattle.device_words.specs.Device.{MemoryDevice, isPinned, withPins, withPin}
-use Rattle.device_words.specs.Words.{deviceAt}
-use Rattle.memory_device.specs.Host.{pinFault, unpinned}
+use Rattle.memory_device.specs.Host.{unpinned}
 use Rattle.memory_device.specs.declared.device.HostAnswer.the-variants.{Pin}
-use Rattle.memory_device.proofs.LentLaws.{left-27, left-fault, left-done, sound, sound-length}
+use Rattle.memory_device.proofs.LentLaws.{left-27, left-fault, left-done, sound-length}
 use borrow.Author.Needs.{needs}
 use Rattle.memory_device.proofs.lent.unpin.Statement.{statement}
 use Rattle.memory_device.proofs.lent.unpin.Tie as tie
@@ -14,11 +12,11 @@ use Rattle.memory_device.proofs.lent.unpin.Tie as tie
 device-ok-requires : tie.Need-device-ok-requires
 device-ok-requires c κs = search needs
 
-can-unpin-requires : tie.Need-can-unpin-requires
-can-unpin-requires c κs = sound-length (c .before .before .before .before .before .args .device .now) _ (c .before .before .device-ok .ensures) (c .before .if1 .taken)
+is-pinned-requires : tie.Need-is-pinned-requires
+is-pinned-requires c κs = sound-length (c .before .before .before .before .before .args .device .now) _ (c .before .before .device-ok .ensures) (c .before .if1 .taken)
 
-put-pin-requires : tie.Need-put-pin-requires
-put-pin-requires c κs = (sound-length (c .before .before .before .before .before .before .before .before .args .device .now) _ (c .before .before .before .before .before .device-ok .ensures) (c .before .before .before .before .if1 .taken), c .before .before .can-unpin .ensures .1 (c .before .if2 .taken))
+set-pin-requires : tie.Need-set-pin-requires
+set-pin-requires c κs = (sound-length (c .before .before .before .before .before .before .before .before .args .device .now) _ (c .before .before .before .before .before .device-ok .ensures) (c .before .before .before .before .if1 .taken), c .before .before .is-pinned .ensures .1 (c .before .if2 .taken))
 
 same-length : tie.Need-same-length
 same-length c = search needs
@@ -26,7 +24,7 @@ same-length c = search needs
 returns : tie.Need-returns
 unfolding unpinned
 returns c = let a = c .before .before .before .before .before .before .before .before .before .before .before .args in
-    left-done (a .device .now) _ (c .before .before .before .before .before .before .before .before .device-ok .ensures) (c .before .before .before .before .before .before .before .if1 .taken) (λ (d : MemoryDevice). not (isPinned d (a .block))) 15 (λ (d : MemoryDevice). withPins d (withPin (d .pinned) (a .block) false)) _ (ap not (sym (c .before .before .before .before .before .can-unpin .ensures .0) ∙ c .before .before .before .before .if2 .taken)) (c .before .before .put-pin .ensures)
+    left-done (a .device .now) _ (c .before .before .before .before .before .before .before .before .device-ok .ensures) (c .before .before .before .before .before .before .before .if1 .taken) (λ (d : MemoryDevice). not (isPinned d (a .block))) 15 (λ (d : MemoryDevice). withPins d (withPin (d .pinned) (a .block) false)) _ (ap not (sym (c .before .before .before .before .before .is-pinned .ensures .0) ∙ c .before .before .before .before .if2 .taken)) (c .before .before .set-pin .ensures)
 
 same-length-2 : tie.Need-same-length-2
 same-length-2 c = search needs
@@ -34,7 +32,7 @@ same-length-2 c = search needs
 returns-2 : tie.Need-returns-2
 unfolding unpinned
 returns-2 c = let a = c .before .before .before .before .before .before .before .args in
-    left-fault (a .device .now) _ (c .before .before .before .before .device-ok .ensures) (c .before .before .before .if1 .taken) (λ (d : MemoryDevice). not (isPinned d (a .block))) 15 (λ (d : MemoryDevice). withPins d (withPin (d .pinned) (a .block) false)) Pin refl (ap not (sym (c .before .can-unpin .ensures .0) ∙ c .if2 .left))
+    left-fault (a .device .now) _ (c .before .before .before .before .device-ok .ensures) (c .before .before .before .if1 .taken) (λ (d : MemoryDevice). not (isPinned d (a .block))) 15 (λ (d : MemoryDevice). withPins d (withPin (d .pinned) (a .block) false)) Pin refl (ap not (sym (c .before .is-pinned .ensures .0) ∙ c .if2 .left))
 
 same-length-3 : tie.Need-same-length-3
 same-length-3 c = search needs
@@ -48,8 +46,8 @@ unpin-spec =
     tie.close
     (tie.spec
     device-ok-requires
-    can-unpin-requires
-    put-pin-requires
+    is-pinned-requires
+    set-pin-requires
     same-length
     returns
     same-length-2
