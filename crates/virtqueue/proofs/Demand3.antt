@@ -2,8 +2,7 @@
 use mathlib.Core.Path.{_≡_, refl, sym, ap, subst, _∙_}
 use mathlib.Core.Bool.{Bool, true, false, cond}
 use mathlib.Core.List.{List}
-use Prim.Native.Nat.{ℕ, _≤_, _<_}
-use native.Mathlib.Decide.{decLt}
+use Prim.Native.Nat.{ℕ, _≤_}
 use native.Mathlib.Omega.{arith}
 use lib.Dec.{eqb}
 use lib.ListN.{length}
@@ -11,23 +10,22 @@ use Rattle.map_records.specs.Words.{mapOf, viewOf}
 use Rattle.map_records.specs.declared.map.RegionMap.{RegionMap}
 use Rattle.map_records.specs.declared.view.FlatView.{FlatView}
 use Rattle.region_map.specs.Check.{Accepted}
-use Rattle.region_map.specs.Reply.{accepted, plain}
-use Rattle.region_map.specs.Flatten.{Outcome, flatList, viewHolding, flattened, flattenedInto}
+use Rattle.region_map.specs.Reply.{accepted}
+use Rattle.region_map.specs.Flatten.{flatList, viewHolding, flattenedInto}
 use Rattle.region_map.proofs.Bools.{never}
-use Rattle.region_map.proofs.Demand3.{demand3-first-half, refused-12}
 use Rattle.device_words.specs.Device.{MemoryDevice}
 use Rattle.device_words.specs.Words.{deviceOf}
 use Rattle.guest_view.specs.Guest.{Guest, byView, byTree}
 use Rattle.guest_view.proofs.GuestLaws.{all-each}
 use Rattle.guest_view.proofs.ReachLaws.{all-true}
 use Rattle.virtqueue.specs.Chain.{Chain, whole, ended, rejected, element, shapeOf}
-use Rattle.virtqueue.specs.Step.{refused, idle, served, Way, halted, quiet, along, entry, wayOf, chainIn, comesTo, usedReached, Offer, stop, nothing, ready, offerChain, offerOf, offered, Effect, unmoved, finished, steppedBy, recordsOk, stepped, usedBytes, servedMemory, responsePlaces, requestBytes, carrying, usedPlaces}
+use Rattle.virtqueue.specs.Step.{refused, idle, served, Way, halted, quiet, along, entry, wayOf, chainIn, comesTo, usedReached, Offer, stop, nothing, ready, offerChain, offerOf, offered, Effect, unmoved, servedBy, finished, steppedBy, recordsOk, stepped, carrying}
 use Rattle.virtqueue.specs.SecondHalf.{Led, elementsOf, Exactly, servedAt, SecondHalf}
 use Rattle.virtqueue.specs.declared.queue.SplitQueue.{SplitQueue}
 use Rattle.virtqueue.proofs.ReachedLaws.{Judged, chain-judged}
 use Rattle.virtqueue.proofs.WayLaws.{way-along}
 use Rattle.virtqueue.proofs.TreeLaws.{view-tree}
-use Rattle.virtqueue.proofs.MadeWords.{Made, made-view}
+use Rattle.virtqueue.proofs.MadeWords.{made-view}
 
 -- ---- over any guest
 
@@ -46,28 +44,28 @@ exactly g (ended k) p = tt
 exactly g (rejected e) p = λ led. never (sym (all-true (g .reach) (e .addr .0) (e .length) led) ∙ p)
 exactly g (element e c) p = ((λ i h. all-each (g .reach) (e .addr .0) (e .length) i (p .0) h), exactly g c (p .1))
 
-unserved : {P : Type 0} (k : ℕ) (b : Bool) → refused k ≡ served b → P
+pub unserved : {P : Type 0} (k : ℕ) (b : Bool) → refused k ≡ served b → P
 unserved k b e = absurd (let z : _≡_ {A = ℕ} 0 1 = cc in omega arith)
 
 unidle : {P : Type 0} (b : Bool) → idle ≡ served b → P
 unidle b e = absurd (let z : _≡_ {A = ℕ} 0 1 = cc in omega arith)
 
 module _ (g : Guest) (d : MemoryDevice) (q : SplitQueue) (memory : List ℕ) where
-  -- the memory of a step that was served
-  serving : (b : Bool) → finished g d q memory (offered g memory q) .answer ≡ served b
-      → finished g d q memory (offered g memory q) .memory ≡ servedAt g d q memory (comesTo g memory q)
+  -- a step that was served went along the chain that it comes to, from the ring's entry
+  pub serving : (b : Bool) → finished g d q memory (offered g memory q) .answer ≡ served b
+      → finished g d q memory (offered g memory q) ≡ servedBy g (carrying d) q memory (entry g memory q) b (comesTo g memory q)
   unfolding offerChain
   serving b e = go (wayOf g memory q) refl e
     where
       by-chain : (h : ℕ) (n : Bool) (c : Chain) → h ≡ entry g memory q → (x y : Bool)
           → finished g d q memory (cond x (cond y (ready h n c) (stop 17)) (stop (shapeOf c))) .answer ≡ served b
-          → finished g d q memory (cond x (cond y (ready h n c) (stop 17)) (stop (shapeOf c))) .memory ≡ servedAt g d q memory c
-      by-chain h n c i true true e = rw i
+          → finished g d q memory (cond x (cond y (ready h n c) (stop 17)) (stop (shapeOf c))) ≡ servedBy g (carrying d) q memory (entry g memory q) b c
+      by-chain h n c i true true e = let j : n ≡ b = cc in λ t. servedBy g (carrying d) q memory (i t) (j t) c
       by-chain h n c i true false e = unserved 17 b e
       by-chain h n c i false y e = unserved (shapeOf c) b e
 
       go : (w : Way) → wayOf g memory q ≡ w → finished g d q memory (offerOf g q w) .answer ≡ served b
-          → finished g d q memory (offerOf g q w) .memory ≡ servedAt g d q memory (chainIn w)
+          → finished g d q memory (offerOf g q w) ≡ servedBy g (carrying d) q memory (entry g memory q) b (chainIn w)
       go (halted k) f e = unserved k b e
       go quiet f e = unidle b e
       go (along h n c) f e = by-chain h n c (way-along g memory q h n c f .head) (eqb (shapeOf c) 0) (usedReached g q) e
@@ -96,8 +94,7 @@ by-view v d q memory = go (recordsOk v d q (length memory)) refl
         record {
           accepts = rw r (exactly g (comesTo g memory q) (comes-judged g memory q));
           served = λ n e.
-              ap (λ (f : Effect MemoryDevice). f .memory) step
-              ∙ serving g d q memory n (ap (λ (f : Effect MemoryDevice). f .answer) (sym step) ∙ e)
+              ap (λ (f : Effect MemoryDevice). f .memory) (step ∙ serving g d q memory n (ap (λ (f : Effect MemoryDevice). f .answer) (sym step) ∙ e))
               ∙ ap (servedAt g d q memory) (sym came);
           idle = λ e.
               ap (λ (f : Effect MemoryDevice). f .memory) step

@@ -3,7 +3,6 @@ use mathlib.Core.Path.{_≡_, refl, sym, ap, _∙_}
 use mathlib.Core.Bool.{Bool, true, false, cond, _&&_, _||_}
 use mathlib.Core.List.{List, [], _∷_}
 use Prim.Native.Nat.{ℕ, zero, suc, _+_, _<_, min}
-use lib.Dec.{eqb}
 use lib.ListN.{length}
 use Rattle.map_records.specs.declared.view.FlatView.{FlatView}
 use Rattle.region_map.proofs.Bools.{never, and-fst, and-snd}
@@ -17,50 +16,17 @@ use Rattle.memory_device.specs.Request.{carriedInto, carried}
 use Rattle.memory_device.specs.Calls as device
 use Rattle.memory_device.proofs.Plugged as device-laws
 use Rattle.virtqueue.specs.Queue.{queueOk}
-use Rattle.virtqueue.specs.Chain.{Chain, shapeOf}
-use Rattle.virtqueue.specs.Step.{Answer, refused, idle, served, Way, halted, quiet, along, wayOf, chainIn, comesTo, entry, Offer, stop, nothing, ready, usedReached, offerChain, offerOf, offered, requestBytes, responsePlaces, usedPlaces, usedBytes, carrying, servedMemory, Effect, finished, unmoved, steppedBy, recordsOk, stepped}
+use Rattle.virtqueue.specs.Step.{entry, comesTo, Offer, stop, nothing, ready, offered, responsePlaces, usedPlaces, usedBytes, carrying, servedMemory, Answer, refused, idle, served, Effect, unmoved, finished, steppedBy, recordsOk, stepped}
 use Rattle.virtqueue.specs.Run.{goesOn, stepsBy, ran}
 use Rattle.virtqueue.specs.Calls.{Call, host, step, run, called, isServed, requestRead, requestsIn, askedBy, after, ledger, CarriesOut}
 use Rattle.virtqueue.specs.declared.queue.SplitQueue.{SplitQueue}
-use Rattle.virtqueue.proofs.WayLaws.{way-along}
+use Rattle.virtqueue.proofs.Demand3.{serving, unserved}
 
--- the head and the chain of an offer are those that the step comes to
-abbrev OfferOf : Guest → List ℕ → SplitQueue → Chain → Offer → Type 0
-OfferOf g memory q c (stop k) = Unit {0}
-OfferOf g memory q c nothing = Unit {0}
-OfferOf g memory q c (ready h notify x) = (h ≡ entry g memory q) × (x ≡ c)
-
-offer-of : (g : Guest) (memory : List ℕ) (q : SplitQueue) → OfferOf g memory q (comesTo g memory q) (offered g memory q)
-unfolding offerChain
-offer-of g memory q = go (wayOf g memory q) refl
-  where
-    by-chain : (h : ℕ) (n : Bool) (c : Chain) → h ≡ entry g memory q → (x y : Bool) → OfferOf g memory q c (cond x (cond y (ready h n c) (stop 17)) (stop (shapeOf c)))
-    by-chain h n c e true true = (e, refl)
-    by-chain h n c e true false = tt
-    by-chain h n c e false y = tt
-
-    go : (w : Way) → wayOf g memory q ≡ w → OfferOf g memory q (chainIn w) (offerOf g q w)
-    go (halted k) e = tt
-    go quiet e = tt
-    go (along h n c) e = by-chain h n c (way-along g memory q h n c e .head) (eqb (shapeOf c) 0) (usedReached g q)
-
--- what a served step leaves, by the chain that it came to
-module _ (g : Guest) (d : MemoryDevice) (q : SplitQueue) (memory : List ℕ) (c : Chain) where
-  finish-carries : (o : Offer) → OfferOf g memory q c o → isServed (finished g d q memory o .answer) ≡ true
-      → (finished g d q memory o .device ≡ carrying d (requestBytes (g .place) memory c) .device)
-      × (finished g d q memory o .memory
-      ≡ servedMemory memory (responsePlaces (g .place) c) (carrying d (requestBytes (g .place) memory c) .response) (usedPlaces (g .place) q) (usedBytes (q .«next_used») (entry g memory q)))
-  finish-carries (stop k) p e = absurd (never (sym e))
-  finish-carries nothing p e = absurd (never (sym e))
-  finish-carries (ready h n x) p e = (
-    λ i. carrying d (requestBytes (g .place) memory (p .1 i)) .device,
-    λ i. servedMemory memory (responsePlaces (g .place) (p .1 i)) (carrying d (requestBytes (g .place) memory (p .1 i)) .response) (usedPlaces (g .place) q) (usedBytes (q .«next_used») (p .0 i)),
-  )
-
-  finish-keeps : (o : Offer) → isServed (finished g d q memory o .answer) ≡ false → finished g d q memory o .device ≡ d
-  finish-keeps (stop k) e = refl
-  finish-keeps nothing e = refl
-  finish-keeps (ready h n x) e = absurd (never e)
+-- a step that is not served keeps the device
+finish-keeps : (g : Guest) (d : MemoryDevice) (q : SplitQueue) (memory : List ℕ) (o : Offer) → isServed (finished g d q memory o .answer) ≡ false → finished g d q memory o .device ≡ d
+finish-keeps g d q memory (stop k) e = refl
+finish-keeps g d q memory nothing e = refl
+finish-keeps g d q memory (ready h n c) e = absurd (never e)
 
 device-ok : (v : FlatView) (d : MemoryDevice) (q : SplitQueue) (n : ℕ) → recordsOk v d q n ≡ true → deviceOk d ≡ true
 unfolding recordsOk
@@ -73,25 +39,25 @@ through d s h = rw h
 
 module _ (v : FlatView) (d : MemoryDevice) (q : SplitQueue) (memory : List ℕ) where
   -- 'carried out as the request': through the public definition with 27
-  pub served-carries : isServed (stepped v d q memory .answer) ≡ true → CarriesOut v d q memory
+  pub served-carries : (notify : Bool) → stepped v d q memory .answer ≡ served notify → CarriesOut v d q memory
   unfolding stepped steppedBy carrying
-  served-carries e = go (recordsOk v d q (length memory)) refl
+  served-carries notify e = go (recordsOk v d q (length memory)) refl
     where
       go : (x : Bool) → recordsOk v d q (length memory) ≡ x → CarriesOut v d q memory
       go true r =
           let g = byView v d in
           let is : stepped v d q memory ≡ finished g d q memory (offered g memory q) = rw r in
-          let k = finish-carries g d q memory (comesTo g memory q) (offered g memory q) (offer-of g memory q) (ap (λ (f : Effect MemoryDevice). isServed (f .answer)) (sym is) ∙ e) in
+          let k = is ∙ serving g d q memory notify (ap (λ (f : Effect MemoryDevice). f .answer) (sym is) ∙ e) in
           let o = through d (requestRead v d q memory) (device-ok v d q (length memory) r) in
           record {
             reply = ap (λ (x : Outcome). x .reply) o;
-            device = ap (λ (f : Effect MemoryDevice). f .device) is ∙ k .0 ∙ sym (ap (λ (x : Outcome). x .device) o);
-            left = ap (λ (f : Effect MemoryDevice). f .memory) is ∙ k .1
+            device = ap (λ (f : Effect MemoryDevice). f .device) k ∙ sym (ap (λ (x : Outcome). x .device) o);
+            left = ap (λ (f : Effect MemoryDevice). f .memory) k
                 ∙ ap (λ (x : Outcome). servedMemory memory (responsePlaces (g .place) (comesTo g memory q)) (x .response) (usedPlaces (g .place) q) (usedBytes (q .«next_used») (entry g memory q))) (sym o);
           }
       go false r =
           let is : stepped v d q memory ≡ unmoved (refused 27) d q memory = rw r in
-          absurd (never (sym e ∙ ap (λ (f : Effect MemoryDevice). isServed (f .answer)) is))
+          unserved 27 notify (ap (λ (f : Effect MemoryDevice). f .answer) (sym is) ∙ e)
 
   -- any other step leaves the device as it was
   pub unserved-keeps : isServed (stepped v d q memory .answer) ≡ false → stepped v d q memory .device ≡ d
@@ -103,17 +69,18 @@ module _ (v : FlatView) (d : MemoryDevice) (q : SplitQueue) (memory : List ℕ) 
           let g = byView v d in
           let is : stepped v d q memory ≡ finished g d q memory (offered g memory q) = rw r in
           ap (λ (f : Effect MemoryDevice). f .device) is
-          ∙ finish-keeps g d q memory (comesTo g memory q) (offered g memory q) (ap (λ (f : Effect MemoryDevice). isServed (f .answer)) (sym is) ∙ e)
+          ∙ finish-keeps g d q memory (offered g memory q) (ap (λ (f : Effect MemoryDevice). isServed (f .answer)) (sym is) ∙ e)
       go false r = rw r
 
   -- the state after a step, by what it asks
   step-asks : stepped v d q memory .device ≡ device.after d (requestsIn v 1 d q memory)
   unfolding requestsIn device.after
-  step-asks = go (isServed (stepped v d q memory .answer)) refl
+  step-asks = go (stepped v d q memory .answer) refl
     where
-      go : (x : Bool) → isServed (stepped v d q memory .answer) ≡ x → stepped v d q memory .device ≡ device.after d (cond x (device.request (requestRead v d q memory) ∷ []) [])
-      go true e = served-carries e .device
-      go false e = unserved-keeps e
+      go : (x : Answer) → stepped v d q memory .answer ≡ x → stepped v d q memory .device ≡ device.after d (cond (isServed x) (device.request (requestRead v d q memory) ∷ []) [])
+      go (refused k) e = unserved-keeps (ap isServed e)
+      go idle e = unserved-keeps (ap isServed e)
+      go (served b) e = served-carries b e .device
 
 module _ (v : FlatView) where
   -- single steps, by the requests that they carry out
@@ -133,7 +100,7 @@ module _ (v : FlatView) where
           → goesOn count notified (stepsBy (stepped v) k) (stepped v d q memory) x .device ≡ device.after d (cond (isServed x) (device.request (requestRead v d q memory) ∷ rest) [])
       go (refused n) e f = unserved-keeps v d q memory (ap isServed e)
       go idle e f = unserved-keeps v d q memory (ap isServed e)
-      go (served b) e f = f b ∙ ap (λ (x : MemoryDevice). device.after x rest) (served-carries v d q memory (ap isServed e) .device)
+      go (served b) e f = f b ∙ ap (λ (x : MemoryDevice). device.after x rest) (served-carries v d q memory b e .device)
 
   -- with records that 27 refuses there are none
   none-asked : (k : ℕ) (d : MemoryDevice) (q : SplitQueue) (memory : List ℕ) → recordsOk v d q (length memory) ≡ false → requestsIn v k d q memory ≡ []
