@@ -1,4 +1,4 @@
--- The list of the first n addresses gives what the walk answers, is a list of longest runs, and grows by one entry for a stretch that answers as one run.
+-- The list of the first n addresses gives what the walk answers, is a list of longest runs, and grows by one entry for a stretch that answers as one run. Assumes nothing.
 use mathlib.Core.Path.{_≡_, refl, _∙_}
 use mathlib.Core.Bool.{cond}
 use mathlib.Core.List.{List, [], _∷_}

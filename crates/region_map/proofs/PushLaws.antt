@@ -1,4 +1,4 @@
--- An entry put behind a list: a second one that joins it, what is looked up, and what stays true of the list.
+-- An entry put behind a list: a second one that joins it, what is looked up, and what stays true of the list. Assumes nothing.
 use mathlib.Core.Path.{_≡_, refl, sym, ap, _∙_}
 use mathlib.Core.Bool.{Bool, true, false, cond}
 use mathlib.Core.List.{List, [], _∷_}

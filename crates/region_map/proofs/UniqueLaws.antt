@@ -1,4 +1,4 @@
--- Two lists of longest runs that give the same answers are equal.
+-- Two lists of longest runs that give the same answers are equal. Assumes nothing.
 use mathlib.Core.Path.{_≡_, refl, sym, ap, _∙_}
 use mathlib.Core.List.{List, [], _∷_}
 use Prim.Native.Nat.{ℕ, zero, suc, _+_, _-_, _≤_, _<_}

@@ -1,4 +1,4 @@
--- The first entries of an array as the list: the last one grown in its place, and one written behind them.
+-- The first entries of an array as the list: the last one grown in its place, and one written behind them. Assumes nothing.
 use mathlib.Core.Path.{_≡_, refl, sym, ap, _∙_}
 use mathlib.Core.Bool.{Bool, true, false}
 use mathlib.Core.List.{List, [], _∷_, _++_}

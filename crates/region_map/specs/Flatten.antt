@@ -51,7 +51,7 @@ refusal r = record { reply = r; view = viewHolding [] }
 unfoldable pub listed : List FlatRange → Outcome
 listed l = cond (ltb 256 (length l)) (refusal (plain 12)) (record { reply = accepted; view = viewHolding l })
 
--- the given map m over a memory of `memory` bytes: 3, 4 and 6 to 11 come first
+-- the given map m over a guest memory of so many bytes: 3, 4 and 6 to 11 come first
 unfoldable pub flattened : RegionMap → ℕ → Outcome
 flattened m memory = ifAccepted (judged m memory) refusal (listed (flatList m))
 

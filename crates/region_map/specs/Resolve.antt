@@ -13,7 +13,7 @@ pub data Led : Type 0 where
   refused : Reply → Led
   leads : Resolved → Led
 
--- the given map m over a memory of `memory` bytes, at the guest address a
+-- the given map m over a guest memory of so many bytes, at the guest address a
 unfoldable pub resolved : RegionMap → ℕ → ℕ → Led
 resolved m memory a = ifAccepted (judged m memory) refused (leads (walkRoot m a))
 

@@ -37,7 +37,7 @@ pub record Rooted (r : Region) : Type 0 where
   pub parent : r .parent ≡ 0
   pub offset : r .offset ≡ 0
 
--- the facts of a map that the check lets pass, over a memory of `memory` bytes
+-- the facts of a map that the check lets pass, over a guest memory of so many bytes
 pub record Sound (m : RegionMap) (memory : ℕ) : Type 0 where
   pub some : 0 < m .count
   pub count : m .count ≤ 32

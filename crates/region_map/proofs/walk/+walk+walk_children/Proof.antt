@@ -1,8 +1,8 @@
 -- `region_map::walk::walk` and `walk_children` meet their contracts, as one cycle of calls: the measure is the region number and the children left. Assumes nothing.
-use mathlib.Core.Path.{sym, ap, _∙_}
+use mathlib.Core.Path.{_≡_, sym, ap, _∙_}
 use native.Mathlib.Omega.{arith}
 use Rattle.map_records.specs.declared.map.Region.{Region}
-use Rattle.region_map.specs.Walk.{walk as walkOf}
+use Rattle.region_map.specs.Walk.{orElse, tried, walkBelow, walk as walkOf}
 use Rattle.map_records.specs.Words.{mapOf}
 use Rattle.region_map.proofs.WalkLaws.{child-below, past, child-at, child-before, own-is, own-none, walk-alias, walk-inside, is-child, tried-none, tried-next}
 use borrow.Author.Needs.{needs}
@@ -162,9 +162,12 @@ walk-children-walk-children-requires-2 t c κs =
     let s = c .before .before .before .before .before .before .before .before .before .before in
     (omega (arith, s .pre .0, c .before .before .before .before .before .before .before .before .next-child .ensures .within, c .before .before .before .before .before .before .before .if1 .left), (s .pre .1 .0, omega (arith, s .pre .1 .1, c .before .before .before .before .before .before .before .before .next-child .ensures .within, c .before .before .before .before .before .before .before .if1 .left)))
 
-walk-children-returns-4 : (t : ℕ) → walk-children-lts.Need-returns-4 (children-calls t) (walk-children-at t) walk-children.Post
-walk-children-returns-4 t c =
-    let w = c .before .before in
+-- the next child was walked: its answer comes before those of the others
+reached : (t : ℕ) (w : walk-children-lts.After-walk (children-calls t) (walk-children-at t) walk-children.Post)
+    → let a = w .before .before .before .before .before .before .before .before .args in
+    tried (mapOf (a .map .now)) (walkBelow (mapOf (a .map .now)) (a .n)) (a .n) (a .below) (a .at .0)
+    ≡ orElse (w .walk .result) (tried (mapOf (a .map .now)) (walkBelow (mapOf (a .map .now)) (a .n)) (a .n) (w .before .before .before .before .before .before .next-child .result - 1) (a .at .0))
+reached t w =
     let a = w .before .before .before .before .before .before .before .before .args in
     let m = mapOf (a .map .now) in
     let nc = w .before .before .before .before .before .before .next-child .ensures in
@@ -173,20 +176,13 @@ walk-children-returns-4 t c =
     let offset = ap (λ (r : Region). r .offset) child in
     let k = is-child m (a .n) (a .below) _ nc left in
     let walked = w .walk .ensures ∙ ap (λ (r : Region). walkOf m ((w .before .before .before .before .before .before .next-child .result - 1) % 32) (a .at .0 - r .offset)) child in
-    rw (tried-next m _ (a .n) (a .below) _ nc left (a .at .0), child-at m (a .n) _ k (a .at .0) (omega (arith, offset, w .before .before .if3 .left)), ← walked, c .enum-told .given .1)
+    rw (tried-next m _ (a .n) (a .below) _ nc left (a .at .0), child-at m (a .n) _ k (a .at .0) (omega (arith, offset, w .before .before .if3 .left)), ← walked)
+
+walk-children-returns-4 : (t : ℕ) → walk-children-lts.Need-returns-4 (children-calls t) (walk-children-at t) walk-children.Post
+walk-children-returns-4 t c = rw (reached t (c .before .before), c .enum-told .given .1)
 
 walk-children-returns-5 : (t : ℕ) → walk-children-lts.Need-returns-5 (children-calls t) (walk-children-at t) walk-children.Post
-walk-children-returns-5 t c =
-    let w = c .before .before .before in
-    let a = w .before .before .before .before .before .before .before .before .args in
-    let m = mapOf (a .map .now) in
-    let nc = w .before .before .before .before .before .before .next-child .ensures in
-    let left = w .before .before .before .before .before .if1 .left in
-    let child = w .before .before .before .before .region-at2 .ensures in
-    let offset = ap (λ (r : Region). r .offset) child in
-    let k = is-child m (a .n) (a .below) _ nc left in
-    let walked = w .walk .ensures ∙ ap (λ (r : Region). walkOf m ((w .before .before .before .before .before .before .next-child .result - 1) % 32) (a .at .0 - r .offset)) child in
-    rw (tried-next m _ (a .n) (a .below) _ nc left (a .at .0), child-at m (a .n) _ k (a .at .0) (omega (arith, offset, w .before .before .if3 .left)), ← walked, c .before .enum-told2 .given .1) (c .walk-children2 .ensures)
+walk-children-returns-5 t c = rw (reached t (c .before .before .before), c .before .enum-told2 .given .1) (c .walk-children2 .ensures)
 
 pub +walk+walk-children-spec : {M : Type 1} → statement M
 +walk+walk-children-spec = close μ-walk μ-walk-children (λ t. walk-lts.spec (walk-calls t)
