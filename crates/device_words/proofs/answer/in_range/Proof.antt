@@ -7,15 +7,6 @@ use borrow.Author.Needs.{needs}
 use Rattle.device_words.proofs.answer.in_range.Statement.{statement}
 use Rattle.device_words.proofs.answer.in_range.Tie as tie
 
-shared-slice-read-first : tie.Need-shared-slice-read-first
-shared-slice-read-first c = search needs
-
-shared-slice-read-block : tie.Need-shared-slice-read-block
-shared-slice-read-block c = search needs
-
-shared-slice-read-usable : tie.Need-shared-slice-read-usable
-shared-slice-read-usable c = search needs
-
 returns : tie.Need-returns
 returns c = let a = c .before .before .before .before .args in in-low (deviceAt (a .device .now)) (a .request) (c .if1 .taken)
 
@@ -25,21 +16,10 @@ mul-size c = let s = c .before .before .before .before .before in omega (arith, 
 returns-2 : tie.Need-returns-2
 returns-2 c = let a = c .before .before .before .before .before .before .args in in-past (deviceAt (a .device .now)) (a .request) (c .if2 .taken)
 
-rem-result : tie.Need-rem-result
-rem-result c = search needs
-
 returns-3 : tie.Need-returns-3
 returns-3 c = let a = c .before .before .before .before .before .before .before .args in in-test (deviceAt (a .device .now)) (a .request) (c .before .before .before .if1 .left) (c .before .if2 .left)
 
 pub in-range-spec : {M : Type 1} → statement M
 in-range-spec =
     tie.close
-    (tie.spec
-    shared-slice-read-first
-    shared-slice-read-block
-    shared-slice-read-usable
-    returns
-    mul-size
-    returns-2
-    rem-result
-    returns-3)
+    (tie.spec (λ c. search needs) (λ c. search needs) (λ c. search needs) returns mul-size returns-2 (λ c. search needs) returns-3)

@@ -17,26 +17,14 @@ some-is : (c : tie.After-none-plugged) → let a = c .before .before .args in
 some-is c = let s = c .before .before in
     run-some (deviceAt (s .args .device .now)) (s .args .request) (s .args .from) (s .pre .1 .first) (deviceAt (s .args .device .now) .plugged) _ (c .none-plugged .ensures)
 
-none-plugged-requires : tie.Need-none-plugged-requires
-none-plugged-requires c κs = search needs
-
 returns : tie.Need-returns
 returns c = rw (← some-is (c .before), c .if1 .taken)
-
-plugged-size-requires : tie.Need-plugged-size-requires
-plugged-size-requires c κs = search needs
-
-shared-slice-read-size : tie.Need-shared-slice-read-size
-shared-slice-read-size c = search needs
 
 mul-size : tie.Need-mul-size
 mul-size c = let s = c .before .before .before .before .before .before in omega (arith, size-bound (s .args .request .blocks) (getD (s .args .device .now) 0 0) (omega (arith, s .pre .1 .room)) (s .pre .0 .sized .most))
 
 add-size : tie.Need-add-size
 add-size c = let s = c .before .before .before .before .before .before in omega (arith, c .before .before .plugged-size .ensures .1, size-bound (s .args .request .blocks) (getD (s .args .device .now) 0 0) (omega (arith, s .pre .1 .room)) (s .pre .0 .sized .most))
-
-shared-slice-read-if2 : tie.Need-shared-slice-read-if2
-shared-slice-read-if2 c = search needs
 
 returns-2 : tie.Need-returns-2
 returns-2 c = let p = c .before .before .before .before in rw (← some-is (p .before .before), p .before .if1 .left, ← p .plugged-size .ensures .0, lt-ltb _ _ (c .if2 .taken))
@@ -45,4 +33,7 @@ returns-3 : tie.Need-returns-3
 returns-3 c = let p = c .before .before .before .before in rw (← some-is (p .before .before), p .before .if1 .left, ← p .plugged-size .ensures .0, le-ltb _ _ (c .if2 .left))
 
 pub plug-answer-spec : {M : Type 1} → statement M
-plug-answer-spec = tie.close (tie.spec none-plugged-requires returns plugged-size-requires shared-slice-read-size mul-size add-size shared-slice-read-if2 returns-2 returns-3)
+plug-answer-spec =
+    tie.close
+    (tie.spec (λ c κs. search needs) returns (λ c κs. search needs) (λ c. search needs) mul-size add-size (λ c. search needs) returns-2
+    returns-3)

@@ -6,33 +6,15 @@ use borrow.Author.Needs.{needs}
 use Rattle.device_words.proofs.answer.respond.Statement.{statement}
 use Rattle.device_words.proofs.answer.respond.Tie as tie
 
-request-of-requires : tie.Need-request-of-requires
-request-of-requires c κs = search needs
-
 answer-of-requires : tie.Need-answer-of-requires
 answer-of-requires c κs = let s = c .before .before .before in (fits (s .args .device .now) (s .pre .0) (s .pre .1), c .before .request-of .ensures .1)
-
-is-ack-requires : tie.Need-is-ack-requires
-is-ack-requires c κs = search needs
 
 acknowledge-requires : tie.Need-acknowledge-requires
 acknowledge-requires c κs = let s = c .before .before .before .before .before .before .before in (fits (s .args .device .now) (s .pre .0) (s .pre .1), ap isAck (sym (c .before .before .before .answer-of .ensures)) ∙ sym (c .before .before .is-ack .ensures) ∙ c .before .if1 .taken)
 
-answer-bytes-requires : tie.Need-answer-bytes-requires
-answer-bytes-requires c κs = search needs
-
-same-length : tie.Need-same-length
-same-length c = search needs
-
 returns : tie.Need-returns
 returns c = let s = c .before .before .before .before .before .before .before .before .before .before .before in
     leaves-changed (s .args .device .now) (s .args .bytes) (s .pre .0) _ (c .before .before .before .before .before .before .before .before .before .request-of .ensures .0) _ (c .before .before .before .before .before .before .before .answer-of .ensures) _ (c .answer-bytes .ensures) _ (sym (c .before .before .before .before .before .before .is-ack .ensures) ∙ c .before .before .before .before .before .if1 .taken) (c .before .before .before .acknowledge .ensures)
-
-answer-bytes-requires-2 : tie.Need-answer-bytes-requires-2
-answer-bytes-requires-2 c κs = search needs
-
-same-length-2 : tie.Need-same-length-2
-same-length-2 c = search needs
 
 returns-2 : tie.Need-returns-2
 returns-2 c = let s = c .before .before .before .before .before .before .before in
@@ -41,14 +23,5 @@ returns-2 c = let s = c .before .before .before .before .before .before .before 
 pub respond-spec : {M : Type 1} → statement M
 respond-spec =
     tie.close
-    (tie.spec
-    request-of-requires
-    answer-of-requires
-    is-ack-requires
-    acknowledge-requires
-    answer-bytes-requires
-    same-length
-    returns
-    answer-bytes-requires-2
-    same-length-2
-    returns-2)
+    (tie.spec (λ c κs. search needs) answer-of-requires (λ c κs. search needs) acknowledge-requires (λ c κs. search needs)
+    (λ c. search needs) returns (λ c κs. search needs) (λ c. search needs) returns-2)

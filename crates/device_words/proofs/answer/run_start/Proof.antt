@@ -6,29 +6,13 @@ use borrow.Author.Needs.{needs}
 use Rattle.device_words.proofs.answer.run_start.Statement.{statement}
 use Rattle.device_words.proofs.answer.run_start.Tie as tie
 
-shared-slice-read-block-of-request : tie.Need-shared-slice-read-block-of-request
-shared-slice-read-block-of-request c = search needs
-
-shared-slice-read-block-of-request-2 : tie.Need-shared-slice-read-block-of-request-2
-shared-slice-read-block-of-request-2 c = search needs
-
 block-of-request-requires : tie.Need-block-of-request-requires
 block-of-request-requires c κs = let s = c .before .before .before .before in
     let f = in-facts (deviceAt (s .args .device .now)) (s .args .request) (s .pre .0 .sized) (s .pre .1) in
     (f .0, f .1, omega (arith, f .2))
 
-cast-result : tie.Need-cast-result
-cast-result c = search needs
-
 returns : tie.Need-returns
 returns c = let s = c .before .before .before .before .before .before in in-run (deviceAt (s .args .device .now)) (s .args .request) (s .pre .0 .sized) (s .pre .1) _ (c .before .block-of-request .ensures)
 
 pub run-start-spec : {M : Type 1} → statement M
-run-start-spec =
-    tie.close
-    (tie.spec
-    shared-slice-read-block-of-request
-    shared-slice-read-block-of-request-2
-    block-of-request-requires
-    cast-result
-    returns)
+run-start-spec = tie.close (tie.spec (λ c. search needs) (λ c. search needs) block-of-request-requires (λ c. search needs) returns)

@@ -3,18 +3,8 @@ use borrow.Author.Needs.{needs}
 use Rattle.device_words.proofs.request.answer_bytes.Statement.{statement}
 use Rattle.device_words.proofs.request.answer_bytes.Tie as tie
 
-type-of-requires : tie.Need-type-of-requires
-type-of-requires c κs = search needs
-
-state-of-requires : tie.Need-state-of-requires
-state-of-requires c κs = search needs
-
-response-bytes-requires : tie.Need-response-bytes-requires
-response-bytes-requires c κs = search needs
-
 returns : tie.Need-returns
 returns c = rw (c .response-bytes .ensures, c .before .before .type-of .ensures, c .before .state-of .ensures)
 
 pub answer-bytes-spec : {M : Type 1} → statement M
-answer-bytes-spec =
-    tie.close (tie.spec type-of-requires state-of-requires response-bytes-requires returns)
+answer-bytes-spec = tie.close (tie.spec (λ c κs. search needs) (λ c κs. search needs) (λ c κs. search needs) returns)

@@ -26,12 +26,6 @@ returns c = sym (power-is _ 19 _ (c .before .loop-test .taken) (c .if1 .taken �
 mul-power : tie.Need-mul-power Inv-loop μ-loop
 mul-power c = let k = c .before .before .loop .k in omega (arith, c .before .before .loop .inv .1, pow-mono {i = 12 + k} {j = 30} (omega (arith, c .before .loop-test .taken)))
 
-add-k : tie.Need-add-k Inv-loop μ-loop
-add-k c = search needs
-
-loop-less : tie.Need-loop-less Inv-loop μ-loop
-loop-less c = search needs
-
 loop-again : tie.Need-loop-again Inv-loop μ-loop
 loop-again c = let l = c .before .before .loop in
     (omega (arith, c .before .loop-test .taken), ap (λ (x : ℕ). x * 2) (l .inv .1) ∙ sym (pow-add 2 (12 + l .k) 1) ∙ ap (λ (x : ℕ). 2 ^ x) (omega arith), power-next _ _ (l .inv .2) (λ e. c .if1 .left (e ∙ sym (l .inv .1))))
@@ -42,4 +36,4 @@ returns-2 c = sym (ap (powerBelow (c .before .before .args .block)) (sym (same-e
 pub block-ok-spec : {M : Type 1} → statement M
 block-ok-spec =
     tie.close
-    (tie.spec Inv-loop μ-loop loop-holds returns mul-power add-k loop-less loop-again returns-2)
+    (tie.spec Inv-loop μ-loop loop-holds returns mul-power (λ c. search needs) (λ c. search needs) loop-again returns-2)

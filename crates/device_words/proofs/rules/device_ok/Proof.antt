@@ -8,24 +8,6 @@ use borrow.Author.Needs.{needs}
 use Rattle.device_words.proofs.rules.device_ok.Statement.{statement}
 use Rattle.device_words.proofs.rules.device_ok.Tie as tie
 
-shared-slice-read-setup-ok : tie.Need-shared-slice-read-setup-ok
-shared-slice-read-setup-ok c = search needs
-
-shared-slice-read-setup-ok-2 : tie.Need-shared-slice-read-setup-ok-2
-shared-slice-read-setup-ok-2 c = search needs
-
-shared-slice-read-setup-ok-3 : tie.Need-shared-slice-read-setup-ok-3
-shared-slice-read-setup-ok-3 c = search needs
-
-shared-slice-read-setup-ok-4 : tie.Need-shared-slice-read-setup-ok-4
-shared-slice-read-setup-ok-4 c = search needs
-
-shared-slice-read-setup-ok-5 : tie.Need-shared-slice-read-setup-ok-5
-shared-slice-read-setup-ok-5 c = search needs
-
-setup-ok-requires : tie.Need-setup-ok-requires
-setup-ok-requires c κs = search needs
-
 tables-ok-requires : tie.Need-tables-ok-requires
 tables-ok-requires c κs = (c .before .before .before .before .before .before .before .if1 .taken, sym (c .before .setup-ok .ensures) ∙ c .if2 .taken)
 
@@ -47,14 +29,5 @@ returns-3 c = rw (ne-eqb (length (c .before .before .args .device .now)) 37 (c .
 pub device-ok-spec : {M : Type 1} → statement M
 device-ok-spec =
     tie.close
-    (tie.spec
-    shared-slice-read-setup-ok
-    shared-slice-read-setup-ok-2
-    shared-slice-read-setup-ok-3
-    shared-slice-read-setup-ok-4
-    shared-slice-read-setup-ok-5
-    setup-ok-requires
-    tables-ok-requires
-    returns
-    returns-2
-    returns-3)
+    (tie.spec (λ c. search needs) (λ c. search needs) (λ c. search needs) (λ c. search needs) (λ c. search needs) (λ c κs. search needs)
+    tables-ok-requires returns returns-2 returns-3)

@@ -15,9 +15,6 @@ is-block c = sym (c .before .block-ok .ensures) ∙ c .if1 .taken
 bounds : (c : tie.Then1) → (4096 ≤ c .before .before .args .block) × (c .before .before .args .block ≤ 2 ^ 30)
 bounds c = power-bounds _ 19 (omega arith) (is-block c)
 
-block-ok-requires : tie.Need-block-ok-requires
-block-ok-requires c κs = search needs
-
 region-ok-requires : tie.Need-region-ok-requires
 region-ok-requires c κs = omega (arith, bounds c)
 
@@ -36,12 +33,4 @@ unfolding setupOk
 returns-2 c = rw (sym (c .before .block-ok .ensures) ∙ c .if1 .left)
 
 pub setup-ok-spec : {M : Type 1} → statement M
-setup-ok-spec =
-    tie.close
-    (tie.spec
-    block-ok-requires
-    region-ok-requires
-    addr-ok-requires
-    sizes-ok-requires
-    returns
-    returns-2)
+setup-ok-spec = tie.close (tie.spec (λ c κs. search needs) region-ok-requires addr-ok-requires sizes-ok-requires returns returns-2)

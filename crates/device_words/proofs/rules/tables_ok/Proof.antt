@@ -14,9 +14,6 @@ use Rattle.device_words.proofs.rules.tables_ok.Tie as tie
 ruled : (s : tie.Start) → let d = deviceAt (s .args .device .now) in Ruled (d .«block_size») (d .addr) (d .«region_size») (d .«usable_size») (d .«requested_size»)
 ruled s = setup-ruled _ _ _ _ _ (s .pre .1)
 
-shared-slice-read-blocks-in : tie.Need-shared-slice-read-blocks-in
-shared-slice-read-blocks-in c = search needs
-
 blocks-in-requires : tie.Need-blocks-in-requires
 blocks-in-requires c κs = let s = c .before .before in (s .pre .0, omega (arith, ruled s .least))
 
@@ -33,4 +30,7 @@ returns c = let s = c .before .before .before .before .before .before in
     rw (c .before .only-below .ensures, c .pins-plugged .ensures, c .before .before .before .blocks-in .ensures) (tables-two (bitAt (d .plugged)) (isPinned d) _ _ (blocks-mono _ _ _ (omega (arith, r .least)) (r .usable)))
 
 pub tables-ok-spec : {M : Type 1} → statement M
-tables-ok-spec = tie.close (tie.spec shared-slice-read-blocks-in blocks-in-requires (λ c. search needs) (λ c. search needs) (λ c. search needs) only-below-requires (λ c κs. search needs) returns)
+tables-ok-spec =
+    tie.close
+    (tie.spec (λ c. search needs) blocks-in-requires (λ c. search needs) (λ c. search needs) (λ c. search needs) only-below-requires
+    (λ c κs. search needs) returns)

@@ -12,21 +12,6 @@ use Rattle.device_words.proofs.state.plugged_size.Tie as tie
 top : (c : tie.After-shared-slice-known2) → getD (c .before .before .before .before .args .device .now) 0 0 * c .before .total .result ≤ 1099511627776
 top c = mul-le-mul (c .before .before .before .before .pre .sized .most) (c .before .total .ensures .1)
 
-sub-total : tie.Need-sub-total
-sub-total c = search needs
-
-part-total-start : tie.Need-part-total-start
-part-total-start c = search needs
-
-part-total-end : tie.Need-part-total-end
-part-total-end c = search needs
-
-total-requires : tie.Need-total-requires
-total-requires c κs = search needs
-
-shared-slice-read-result : tie.Need-shared-slice-read-result
-shared-slice-read-result c = search needs
-
 mul-result : tie.Need-mul-result
 mul-result c = omega (arith, top c)
 
@@ -37,11 +22,4 @@ returns c = (ap (λ (x : ℕ). getD (c .before .before .before .before .args .de
 pub plugged-size-spec : {M : Type 1} → statement M
 plugged-size-spec =
     tie.close
-    (tie.spec
-    sub-total
-    part-total-start
-    part-total-end
-    total-requires
-    shared-slice-read-result
-    mul-result
-    returns)
+    (tie.spec (λ c. search needs) (λ c. search needs) (λ c. search needs) (λ c κs. search needs) (λ c. search needs) mul-result returns)

@@ -11,14 +11,8 @@ use Rattle.device_words.proofs.table.bits_below.Tie as tie
 returns : tie.Need-returns
 returns c = below-none (c .before .args .start) (c .before .args .b) (c .if1 .taken)
 
-sub-count : tie.Need-sub-count
-sub-count c = search needs
-
 returns-2 : tie.Need-returns-2
 returns-2 c = below-all (c .before .before .args .start) (c .before .before .args .b) (omega arith)
-
-shl-result : tie.Need-shl-result
-shl-result c = search needs
 
 sub-result : tie.Need-sub-result
 sub-result c =
@@ -31,4 +25,4 @@ returns-3 c =
     ap (λ (x : ℕ). x - 1) (shl-one (a .b - a .start) (omega arith)) ∙ below-some (a .start) (a .b) (a .b - a .start) (omega arith) (omega arith)
 
 pub bits-below-spec : {M : Type 1} → statement M
-bits-below-spec = tie.close (tie.spec returns sub-count returns-2 shl-result sub-result returns-3)
+bits-below-spec = tie.close (tie.spec returns (λ c. search needs) returns-2 (λ c. search needs) sub-result returns-3)

@@ -5,14 +5,8 @@ use borrow.Author.Needs.{needs}
 use Rattle.device_words.proofs.table.clear.Statement.{statement}
 use Rattle.device_words.proofs.table.clear.Tie as tie
 
-with-run-requires : tie.Need-with-run-requires
-with-run-requires c κs = search needs
-
-same-length : tie.Need-same-length
-same-length c = search needs
-
 returns : tie.Need-returns
 returns c = c .before .before .with-run .ensures ∙ cleared (c .before .before .before .before .before .args .words .now)
 
 pub clear-spec : {M : Type 1} → statement M
-clear-spec = tie.close (tie.spec with-run-requires same-length returns)
+clear-spec = tie.close (tie.spec (λ c κs. search needs) (λ c. search needs) returns)

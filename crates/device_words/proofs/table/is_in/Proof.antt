@@ -5,20 +5,8 @@ use borrow.Author.Needs.{needs}
 use Rattle.device_words.proofs.table.is_in.Statement.{statement}
 use Rattle.device_words.proofs.table.is_in.Tie as tie
 
-mul-word : tie.Need-mul-word
-mul-word c = search needs
-
-shared-slice-read-word : tie.Need-shared-slice-read-word
-shared-slice-read-word c = search needs
-
-shr-result : tie.Need-shr-result
-shr-result c = search needs
-
-returns : tie.Need-returns
-returns c = search needs
-
 returns-2 : tie.Need-returns-2
 returns-2 c = sym (past-bit (c .before .args .words .now) (c .before .args .b) (c .before .pre) (c .if1 .left))
 
 pub is-in-spec : {M : Type 1} → statement M
-is-in-spec = tie.close (tie.spec mul-word shared-slice-read-word shr-result returns returns-2)
+is-in-spec = tie.close (tie.spec (λ c. search needs) (λ c. search needs) (λ c. search needs) (λ c. search needs) returns-2)

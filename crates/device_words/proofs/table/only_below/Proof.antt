@@ -22,40 +22,16 @@ abbrev μ-loop : tie.MeasureT-loop
 loop-holds : tie.Need-loop-holds Inv-loop μ-loop
 loop-holds c = (search needs, λ b p. absurd (omega arith))
 
-mul-word : tie.Need-mul-word Inv-loop μ-loop
-mul-word c = search needs
-
-shared-slice-read-word : tie.Need-shared-slice-read-word Inv-loop μ-loop
-shared-slice-read-word c = search needs
-
-mul-start : tie.Need-mul-start Inv-loop μ-loop
-mul-start c = search needs
-
 returns : tie.Need-returns Inv-loop μ-loop
 returns c = let a = c .before .before .before .before .before .args in
     let i = c .before .before .before .before .loop .i in
     let w = getD (a .words .now) i 0 in
     sym (word-high-not (a .words .now) (a .n) i 0 (omega arith) (λ k p. omega arith) (c .before .before .before .loop-test .taken) (omega (arith, c .before .before .shared-slice-known .given i)) (λ e. c .if2 .taken (sym (div-one w) ∙ e)))
 
-sub-if3 : tie.Need-sub-if3 Inv-loop μ-loop
-sub-if3 c = search needs
-
-sub-k : tie.Need-sub-k Inv-loop μ-loop
-sub-k c = search needs
-
-shr-if4 : tie.Need-shr-if4 Inv-loop μ-loop
-shr-if4 c = search needs
-
 returns-2 : tie.Need-returns-2 Inv-loop μ-loop
 returns-2 c = let a = c .before .before .before .before .before .before .args in
     let i = c .before .before .before .before .before .loop .i in
     sym (word-high-not (a .words .now) (a .n) i (a .n - i * 64) (omega arith) (λ k p. omega arith) (c .before .before .before .before .loop-test .taken) (omega (arith, c .before .before .before .shared-slice-known .given i)) (c .if4 .taken))
-
-add-i : tie.Need-add-i Inv-loop μ-loop
-add-i c = search needs
-
-loop-less : tie.Need-loop-less Inv-loop μ-loop
-loop-less c = search needs
 
 loop-again : tie.Need-loop-again Inv-loop μ-loop
 loop-again c = let a = c .before .before .before .before .args in
@@ -78,19 +54,5 @@ returns-3 c = let a = c .before .before .args in
 pub only-below-spec : {M : Type 1} → statement M
 only-below-spec =
     tie.close
-    (tie.spec
-    Inv-loop
-    μ-loop
-    loop-holds
-    mul-word
-    shared-slice-read-word
-    mul-start
-    returns
-    sub-if3
-    sub-k
-    shr-if4
-    returns-2
-    add-i
-    loop-less
-    loop-again
-    returns-3)
+    (tie.spec Inv-loop μ-loop loop-holds (λ c. search needs) (λ c. search needs) (λ c. search needs) returns (λ c. search needs)
+    (λ c. search needs) (λ c. search needs) returns-2 (λ c. search needs) (λ c. search needs) loop-again returns-3)

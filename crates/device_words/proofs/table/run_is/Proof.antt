@@ -13,34 +13,13 @@ Inv-loop words from n on end i₀ i = (i ≤ 16) × Alike words from n on i
 abbrev μ-loop : tie.MeasureT-loop
 μ-loop words from n on end i₀ i = 17 - i
 
-add-end : tie.Need-add-end Inv-loop μ-loop
-add-end c = search needs
-
 loop-holds : tie.Need-loop-holds Inv-loop μ-loop
 loop-holds c = (omega arith, λ b p q r. absurd (omega arith))
-
-mul-loop : tie.Need-mul-loop Inv-loop μ-loop
-mul-loop c = search needs
-
-mul-word : tie.Need-mul-word Inv-loop μ-loop
-mul-word c = search needs
-
-shared-slice-read-word : tie.Need-shared-slice-read-word Inv-loop μ-loop
-shared-slice-read-word c = search needs
-
-word-with-requires : tie.Need-word-with-requires Inv-loop μ-loop
-word-with-requires c κs = search needs
 
 returns : tie.Need-returns Inv-loop μ-loop
 returns c = let a = c .before .before .before .before .before .before .args in
     let i = c .before .before .before .before .loop .i in
     sym (alike-not (a .words .now) (a .from) (a .n) (a .on) i (c .before .word-with .result) (omega (arith, c .before .before .shared-slice-known2 .given i)) (c .before .word-with .ensures) (c .if1 .taken))
-
-add-i : tie.Need-add-i Inv-loop μ-loop
-add-i c = search needs
-
-loop-less : tie.Need-loop-less Inv-loop μ-loop
-loop-less c = search needs
 
 loop-again : tie.Need-loop-again Inv-loop μ-loop
 loop-again c = let a = c .before .before .before .before .before .before .args in
@@ -54,17 +33,5 @@ returns-2 c = let a = c .before .before .before .args in
 pub run-is-spec : {M : Type 1} → statement M
 run-is-spec =
     tie.close
-    (tie.spec
-    Inv-loop
-    μ-loop
-    add-end
-    loop-holds
-    mul-loop
-    mul-word
-    shared-slice-read-word
-    word-with-requires
-    returns
-    add-i
-    loop-less
-    loop-again
-    returns-2)
+    (tie.spec Inv-loop μ-loop (λ c. search needs) loop-holds (λ c. search needs) (λ c. search needs) (λ c. search needs)
+    (λ c κs. search needs) returns (λ c. search needs) (λ c. search needs) loop-again returns-2)

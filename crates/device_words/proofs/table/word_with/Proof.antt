@@ -9,18 +9,6 @@ use borrow.Author.Needs.{needs}
 use Rattle.device_words.proofs.table.word_with.Statement.{statement}
 use Rattle.device_words.proofs.table.word_with.Tie as tie
 
-mul-start : tie.Need-mul-start
-mul-start c = search needs
-
-add-bits-below : tie.Need-add-bits-below
-add-bits-below c = search needs
-
-bits-below-requires : tie.Need-bits-below-requires
-bits-below-requires c κs = search needs
-
-bits-below-requires-2 : tie.Need-bits-below-requires-2
-bits-below-requires-2 c κs = search needs
-
 returns : tie.Need-returns
 returns c =
     let a = c .before .before .before .args in
@@ -36,4 +24,4 @@ returns-2 c =
 pub word-with-spec : {M : Type 1} → statement M
 word-with-spec =
     tie.close
-    (tie.spec mul-start add-bits-below bits-below-requires bits-below-requires-2 returns returns-2)
+    (tie.spec (λ c. search needs) (λ c. search needs) (λ c κs. search needs) (λ c κs. search needs) returns returns-2)

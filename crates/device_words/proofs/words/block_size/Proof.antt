@@ -6,11 +6,8 @@ use borrow.Author.Needs.{needs}
 use Rattle.device_words.proofs.words.block_size.Statement.{statement}
 use Rattle.device_words.proofs.words.block_size.Tie as tie
 
-shared-slice-read-result : tie.Need-shared-slice-read-result
-shared-slice-read-result c = search needs
-
 returns : tie.Need-returns
 returns c = sym (ap (λ (d : MemoryDevice). d .«block_size») (device-at (c .before .args .device .now) (c .before .pre)))
 
 pub block-size-spec : {M : Type 1} → statement M
-block-size-spec = tie.close (tie.spec shared-slice-read-result returns)
+block-size-spec = tie.close (tie.spec (λ c. search needs) returns)

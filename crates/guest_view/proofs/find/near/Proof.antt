@@ -12,12 +12,6 @@ use borrow.Author.Needs.{needs}
 use Rattle.guest_view.proofs.find.near.Statement.{statement}
 use Rattle.guest_view.proofs.find.near.Tie as tie
 
-count-of-requires : tie.Need-count-of-requires
-count-of-requires c κs = search needs
-
-range-at-requires : tie.Need-range-at-requires
-range-at-requires c κs = search needs
-
 returns : tie.Need-returns
 returns c =
     let s = c .before .before .before .before .before .before .before .before .before in
@@ -30,12 +24,5 @@ returns c =
     spot-at (viewOf w) (omega (arith, full-words w, s .pre .ordered .few)) (s .pre .ordered) (s .args .hint) a (omega (arith, c .before .before .before .before .before .before .if1 .taken, c .before .before .before .before .before .before .before .count-of .ensures))
     (omega (arith, p, ap (λ (x : FlatRange). x .first .0) e)) (omega (arith, q, ap (λ (x : FlatRange). x .last .0) e))
 
-search-requires : tie.Need-search-requires
-search-requires c κs = search needs
-
-returns-2 : tie.Need-returns-2
-returns-2 c = search needs
-
 pub near-spec : {M : Type 1} → statement M
-near-spec =
-    tie.close (tie.spec count-of-requires range-at-requires returns search-requires returns-2)
+near-spec = tie.close (tie.spec (λ c κs. search needs) (λ c κs. search needs) returns (λ c κs. search needs) (λ c. search needs))

@@ -23,20 +23,17 @@ sub-if2 c = some (c .before .if1 .left)
 places-from-requires : tie.Need-places-from-requires
 places-from-requires c κs = runs-room (viewOf (c .before .before .before .before .before .before .before .args .view .now)) (c .before .before .before .before .before .before .before .args .addr .0) (c .before .before .before .stretch-at .result .place) (c .before .before .before .stretch-at .result .left) (length (c .before .before .before .before .before .before .before .args .out .now)) (c .before .before .before .stretch-at .ensures) (some (c .before .before .before .before .if1 .left)) (c .before .if2 .taken) (2 ^ 64) (c .before .before .before .before .before .before .before .pre .1) (ordered-room (viewOf (c .before .before .before .before .before .before .before .args .view .now)) (c .before .before .before .before .before .before .before .pre .0 .ordered))
 
-same-length : tie.Need-same-length
-same-length c = search needs
-
 returns-2 : tie.Need-returns-2
 returns-2 c = c .before .before .places-from .ensures ∙ runs-places (viewOf (c .before .before .before .before .before .before .before .before .before .before .args .view .now)) (c .before .before .before .before .before .before .before .before .before .before .args .addr .0) (c .before .before .before .before .before .before .stretch-at .result .place) (c .before .before .before .before .before .before .stretch-at .result .left) (length (c .before .before .before .before .before .before .before .before .before .before .args .out .now)) (c .before .before .before .before .before .before .stretch-at .ensures) (some (c .before .before .before .before .before .before .before .if1 .left)) (c .before .before .before .before .if2 .taken)
 
 places-apart-requires : tie.Need-places-apart-requires
 places-apart-requires c κs = c .before .before .before .before .before .before .before .pre
 
-same-length-2 : tie.Need-same-length-2
-same-length-2 c = search needs
-
 returns-3 : tie.Need-returns-3
 returns-3 c = c .before .before .places-apart .ensures
 
 pub find-places-spec : {M : Type 1} → statement M
-find-places-spec = tie.close (tie.spec returns stretch-at-requires sub-if2 places-from-requires same-length returns-2 places-apart-requires same-length-2 returns-3)
+find-places-spec =
+    tie.close
+    (tie.spec returns stretch-at-requires sub-if2 places-from-requires (λ c. search needs) returns-2 places-apart-requires
+    (λ c. search needs) returns-3)

@@ -37,9 +37,6 @@ mul-value c = omega (arith, reading-fits _ _ _ _ _ (c .before .before .before .l
 shared-slice-read-wide : tie.Need-shared-slice-read-wide Inv-loop μ-loop
 shared-slice-read-wide c = byte-place (viewOf (c .before .before .before .before .before .before .before .args .view .now)) (c .before .before .before .before .before .before .before .args .addr .0) (c .before .before .before .before .before .before .before .args .bytes) (c .before .before .before .before .loop .i - 1) (c .before .before .before .before .before .before .before .pre .1 .1 .0) (omega (arith, c .before .before .before .before .loop .inv .most, c .before .before .before .loop-test .taken)) (length (c .before .before .before .before .before .before .before .args .mem .now)) (c .before .stretch-at .result .place) (c .before .before .before .before .before .before .before .pre .1 .0) (runs-first _ _ _ _ (c .before .stretch-at .ensures))
 
-wide-requires : tie.Need-wide-requires Inv-loop μ-loop
-wide-requires c κs = search needs
-
 add-value-2 : tie.Need-add-value-2 Inv-loop μ-loop
 add-value-2 c = omega (arith, c .wide .ensures .1, reading-fits _ _ _ _ _ (c .before .before .before .before .before .loop .inv) (c .before .before .before .before .loop-test .taken) (c .before .before .before .before .before .before .before .before .pre .1 .1 .1))
 
@@ -56,4 +53,7 @@ returns : tie.Need-returns Inv-loop μ-loop
 returns c = reading-ends _ _ _ _ _ (c .before .loop .inv) (c .loop-test .left)
 
 pub number-apart-spec : {M : Type 1} → statement M
-number-apart-spec = tie.close (tie.spec Inv-loop μ-loop loop-holds sub-i add-value stretch-at-requires mul-value shared-slice-read-wide wide-requires add-value-2 loop-less loop-again returns)
+number-apart-spec =
+    tie.close
+    (tie.spec Inv-loop μ-loop loop-holds sub-i add-value stretch-at-requires mul-value shared-slice-read-wide (λ c κs. search needs)
+    add-value-2 loop-less loop-again returns)

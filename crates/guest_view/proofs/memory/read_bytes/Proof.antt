@@ -22,20 +22,17 @@ sub-if2 c = some (c .before .if1 .left)
 bytes-from-requires : tie.Need-bytes-from-requires
 bytes-from-requires c κs = runs-room (viewOf (c .before .before .before .before .before .before .before .before .args .view .now)) (c .before .before .before .before .before .before .before .before .args .addr .0) (c .before .before .before .stretch-at .result .place) (c .before .before .before .stretch-at .result .left) (length (c .before .before .before .before .before .before .before .before .args .out .now)) (c .before .before .before .stretch-at .ensures) (some (c .before .before .before .before .if1 .left)) (c .before .if2 .taken) (length (c .before .before .before .before .before .before .before .before .args .mem .now)) (c .before .before .before .before .before .before .before .before .pre .1 .1) (c .before .before .before .before .before .before .before .before .pre .1 .0)
 
-same-length : tie.Need-same-length
-same-length c = search needs
-
 returns-2 : tie.Need-returns-2
 returns-2 c = c .before .before .bytes-from .ensures ∙ runs-bytes (viewOf (c .before .before .before .before .before .before .before .before .before .before .before .args .view .now)) (c .before .before .before .before .before .before .before .before .before .before .before .args .addr .0) (c .before .before .before .before .before .before .stretch-at .result .place) (c .before .before .before .before .before .before .stretch-at .result .left) (length (c .before .before .before .before .before .before .before .before .before .before .before .args .out .now)) (c .before .before .before .before .before .before .stretch-at .ensures) (some (c .before .before .before .before .before .before .before .if1 .left)) (c .before .before .before .before .if2 .taken) (c .before .before .before .before .before .before .before .before .before .before .before .args .mem .now)
 
 bytes-apart-requires : tie.Need-bytes-apart-requires
 bytes-apart-requires c κs = c .before .before .before .before .before .before .before .before .pre
 
-same-length-2 : tie.Need-same-length-2
-same-length-2 c = search needs
-
 returns-3 : tie.Need-returns-3
 returns-3 c = c .before .before .bytes-apart .ensures
 
 pub read-bytes-spec : {M : Type 1} → statement M
-read-bytes-spec = tie.close (tie.spec returns stretch-at-requires sub-if2 bytes-from-requires same-length returns-2 bytes-apart-requires same-length-2 returns-3)
+read-bytes-spec =
+    tie.close
+    (tie.spec returns stretch-at-requires sub-if2 bytes-from-requires (λ c. search needs) returns-2 bytes-apart-requires
+    (λ c. search needs) returns-3)

@@ -12,9 +12,6 @@ use Rattle.guest_view.proofs.reach.how_far.Tie as tie
 returns : tie.Need-returns
 returns c = (omega arith, λ e h. ram-true (pluggedIn (c .before .before .args .block) (c .before .before .args .plugged .now)) _ _ (c .if1 .taken))
 
-least-requires : tie.Need-least-requires
-least-requires c κs = search needs
-
 run-plugged-requires : tie.Need-run-plugged-requires
 run-plugged-requires c κs = (c .before .before .before .before .pre .0, omega (arith, c .least .ensures, c .before .before .before .before .pre .1))
 
@@ -33,9 +30,6 @@ rem-left c = omega (arith, c .before .before .before .before .before .before .be
 sub-left-2 : tie.Need-sub-left-2
 sub-left-2 c = omega (arith, mod-lt (c .before .before .before .before .before .before .before .before .before .args .offset .0) (c .before .before .before .before .before .before .before .before .before .pre .0 .0))
 
-least-requires-2 : tie.Need-least-requires-2
-least-requires-2 c κs = search needs
-
 returns-3 : tie.Need-returns-3
 returns-3 c = (omega (arith, c .least2 .ensures), λ e h. block-true (c .before .before .before .before .before .before .before .before .before .before .args .block) (c .before .before .before .before .before .before .before .before .before .before .args .plugged .now) _ _ e (c .before .before .before .before .before .before .before .before .before .before .pre .0 .0) (c .before .before .before .before .before .before .before .if2 .taken) (sym (c .before .before .before .is-plugged .ensures) ∙ c .before .before .if4 .taken) (omega (arith, h, c .least2 .ensures)))
 
@@ -46,4 +40,7 @@ returns-5 : tie.Need-returns-5
 returns-5 c = other-false (pluggedIn (c .before .before .before .args .block) (c .before .before .before .args .plugged .now)) _ _ (c .before .if1 .left) (c .if2 .left)
 
 pub how-far-spec : {M : Type 1} → statement M
-how-far-spec = tie.close (tie.spec returns least-requires run-plugged-requires returns-2 is-plugged-requires sub-left rem-left sub-left-2 least-requires-2 returns-3 returns-4 returns-5)
+how-far-spec =
+    tie.close
+    (tie.spec returns (λ c κs. search needs) run-plugged-requires returns-2 is-plugged-requires sub-left rem-left sub-left-2
+    (λ c κs. search needs) returns-3 returns-4 returns-5)

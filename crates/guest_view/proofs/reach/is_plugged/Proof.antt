@@ -14,9 +14,6 @@ div-if1 c = omega (arith, c .before .before .pre .0)
 block-of-requires : tie.Need-block-of-requires
 block-of-requires c κs = (c .before .before .before .pre .0, omega (arith, c .if1 .taken))
 
-cast-is-in : tie.Need-cast-is-in
-cast-is-in c = search needs
-
 is-in-requires : tie.Need-is-in-requires
 is-in-requires c κs = c .before .before .before .before .before .pre .1
 
@@ -27,4 +24,4 @@ returns-2 : tie.Need-returns-2
 returns-2 c = sym (past-bit (c .before .before .before .args .plugged .now) _ (c .before .before .before .pre .1) (c .if1 .left))
 
 pub is-plugged-spec : {M : Type 1} → statement M
-is-plugged-spec = tie.close (tie.spec div-if1 block-of-requires cast-is-in is-in-requires returns returns-2)
+is-plugged-spec = tie.close (tie.spec div-if1 block-of-requires (λ c. search needs) is-in-requires returns returns-2)

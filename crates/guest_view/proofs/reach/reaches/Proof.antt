@@ -48,16 +48,10 @@ sub-extent-at-2 c = omega (arith, c .before .loop-test .taken)
 extent-at-requires : tie.Need-extent-at-requires Inv-loop μ-loop
 extent-at-requires c κs = c .before .before .before .before .before .before .before .before .pre
 
-enum-told : tie.Need-enum-told Inv-loop μ-loop
-enum-told c = search needs
-
 returns-3 : tie.Need-returns-3 Inv-loop μ-loop
 returns-3 c =
     let s = c .before .before .before .before .before .before .before .before .before .before .before .args in
     sym (turn-stops (viewGuest (viewOf (s .view .now)) (s .block) (s .plugged .now) .reach) (s .addr .0) (c .before .before .before .before .before .loop .done) (c .before .before .extent-at .result) (c .before .before .extent-at .ensures) (s .count) (c .enum-told .given .1) (c .before .before .before .before .loop-test .taken))
-
-enum-known-more : tie.Need-enum-known-more Inv-loop μ-loop
-enum-known-more c = search needs
 
 -- the bytes passed, with those that an extent gives
 passed : (c : tie.After-more Inv-loop μ-loop) → (e : ℕ) → e < c .before .before .before .before .before .loop .done + c .more .given .0 .0 + 1
@@ -95,4 +89,8 @@ returns-5 c =
     sym (all-true (viewGuest (viewOf (s .view .now)) (s .block) (s .plugged .now) .reach) (s .addr .0) (s .count) (λ e h. c .before .loop .inv .1 e (omega (arith, h, c .loop-test .left))))
 
 pub reaches-spec : {M : Type 1} → statement M
-reaches-spec = tie.close (tie.spec Inv-loop μ-loop returns sub-if2 sub-if2-2 returns-2 loop-holds add-extent-at sub-extent-at sub-extent-at-2 extent-at-requires enum-told returns-3 enum-known-more sub-if3 sub-if3-2 returns-4 add-done add-done-2 loop-less loop-again returns-5)
+reaches-spec =
+    tie.close
+    (tie.spec Inv-loop μ-loop returns sub-if2 sub-if2-2 returns-2 loop-holds add-extent-at sub-extent-at sub-extent-at-2
+    extent-at-requires (λ c. search needs) returns-3 (λ c. search needs) sub-if3 sub-if3-2 returns-4 add-done add-done-2 loop-less
+    loop-again returns-5)

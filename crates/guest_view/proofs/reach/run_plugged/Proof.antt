@@ -28,14 +28,8 @@ ordered c = run-order (c .before .before .before .before .before .before .before
 sub-count : tie.Need-sub-count
 sub-count c = ordered c
 
-cast-count : tie.Need-cast-count
-cast-count c = search needs
-
 add-count : tie.Need-add-count
 add-count c = omega (arith, c .before .before .block-of2 .ensures, c .before .before .before .before .if1 .taken, ordered c)
-
-cast-all-set : tie.Need-cast-all-set
-cast-all-set c = search needs
 
 all-set-requires : tie.Need-all-set-requires
 all-set-requires c κs = (c .before .before .before .before .before .before .before .before .before .pre .0 .1, omega (arith, c .before .before .before .block-of2 .ensures, c .before .before .before .before .before .if1 .taken, ordered (c .before)))
@@ -47,4 +41,7 @@ returns-2 : tie.Need-returns-2
 returns-2 c = λ r e h. absurd (never (sym r))
 
 pub run-plugged-spec : {M : Type 1} → statement M
-run-plugged-spec = tie.close (tie.spec add-if1 div-if1 block-of-requires block-of-requires-2 sub-count cast-count add-count cast-all-set all-set-requires returns returns-2)
+run-plugged-spec =
+    tie.close
+    (tie.spec add-if1 div-if1 block-of-requires block-of-requires-2 sub-count (λ c. search needs) add-count (λ c. search needs)
+    all-set-requires returns returns-2)

@@ -44,9 +44,6 @@ loop-holds c =
 range-at-requires : tie.Need-range-at-requires Inv-loop μ-loop
 range-at-requires c κs = (omega (arith, c .before .before .before .before .if1 .left), omega (arith, c .loop-test .taken, c .before .loop .inv .1))
 
-range-ok-requires : tie.Need-range-ok-requires Inv-loop μ-loop
-range-ok-requires c κs = search needs
-
 -- what was judged of the range at k
 judged : (c : tie.After-range-ok Inv-loop μ-loop) → c .range-ok .result ≡ rangeOk (c .before .before .before .before .before .before .before .before .args .memory) (c .before .before .before .before .before .before .before .before .args .region) (rangeOf (viewOf (c .before .before .before .before .before .before .before .before .args .view .now)) (c .before .before .before .loop .k))
 judged c = c .range-ok .ensures ∙ ap (rangeOk (c .before .before .before .before .before .before .before .before .args .memory) (c .before .before .before .before .before .before .before .before .args .region)) (c .before .range-at .ensures)
@@ -145,4 +142,7 @@ returns-5 c =
     sym (view-of v (a .memory) (a .region) (omega (arith, l .inv .1, c .before .before .before .count-of .ensures)) (subst (λ (x : ℕ). allBelow (entryOk v (a .memory) (a .region)) x ≡ true) e (l .inv .2)))
 
 pub view-ok-spec : {M : Type 1} → statement M
-view-ok-spec = tie.close (tie.spec Inv-loop μ-loop returns count-of-requires returns-2 loop-holds range-at-requires range-ok-requires returns-3 mul-first array-read-first pairs-ok-requires returns-4 add-owner mul-owner array-write-owner add-k loop-less loop-again returns-5)
+view-ok-spec =
+    tie.close
+    (tie.spec Inv-loop μ-loop returns count-of-requires returns-2 loop-holds range-at-requires (λ c κs. search needs) returns-3 mul-first
+    array-read-first pairs-ok-requires returns-4 add-owner mul-owner array-write-owner add-k loop-less loop-again returns-5)

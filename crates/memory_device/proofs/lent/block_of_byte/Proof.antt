@@ -16,9 +16,6 @@ use Rattle.memory_device.proofs.lent.block_of_byte.Tie as tie
 is-ok : (c : tie.Then1) → deviceOk (deviceOf (c .before .before .before .args .device .now)) ≡ true
 is-ok c = ok-device (c .before .before .before .args .device .now) _ (c .before .device-ok .ensures) (c .if1 .taken)
 
-device-ok-requires : tie.Need-device-ok-requires
-device-ok-requires c κs = search needs
-
 block-size-requires : tie.Need-block-size-requires
 block-size-requires c κs = ok-length (c .before .before .before .args .device .now) _ (c .before .device-ok .ensures) (c .if1 .taken)
 
@@ -53,11 +50,4 @@ returns-3 c = rw (not-device (c .before .before .before .args .device .now) _ (c
 pub block-of-byte-spec : {M : Type 1} → statement M
 block-of-byte-spec =
     tie.close
-    (tie.spec
-    device-ok-requires
-    block-size-requires
-    region-size-requires
-    block-of-requires
-    returns
-    returns-2
-    returns-3)
+    (tie.spec (λ c κs. search needs) block-size-requires region-size-requires block-of-requires returns returns-2 returns-3)

@@ -7,15 +7,9 @@ use borrow.Author.Needs.{needs}
 use Rattle.memory_device.proofs.lent.carry_out.Statement.{statement}
 use Rattle.memory_device.proofs.lent.carry_out.Tie as tie
 
-device-ok-requires : tie.Need-device-ok-requires
-device-ok-requires c κs = search needs
-
 respond-requires : tie.Need-respond-requires
 respond-requires c κs = let w = c .before .before .before .before .before .before .before .args .device .now in
     (sound-length (c .before .before .before .before .before .before .before .args .device .now) _ (c .before .before .device-ok .ensures) (c .before .if2 .taken), valid-sizes (deviceOf w) (device-valid (deviceOf w) (ok-device w _ (c .before .before .device-ok .ensures) (c .before .if2 .taken))))
-
-copy-bytes-requires : tie.Need-copy-bytes-requires
-copy-bytes-requires c κs = search needs
 
 returns : tie.Need-returns
 returns c =
@@ -34,14 +28,5 @@ returns-3 c = let a = c .before .before .before .args in carries-length (a .devi
 pub carry-out-spec : {M : Type 1} → statement M
 carry-out-spec =
     tie.close
-    (tie.spec
-    device-ok-requires
-    respond-requires
-    (λ c. search needs)
-    copy-bytes-requires
-    (λ c. search needs)
-    (λ c. search needs)
-    returns
-    (λ c. search needs)
-    returns-2
-    returns-3)
+    (tie.spec (λ c κs. search needs) respond-requires (λ c. search needs) (λ c κs. search needs) (λ c. search needs) (λ c. search needs)
+    returns (λ c. search needs) returns-2 returns-3)

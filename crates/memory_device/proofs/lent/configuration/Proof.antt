@@ -4,14 +4,8 @@ use borrow.Author.Needs.{needs}
 use Rattle.memory_device.proofs.lent.configuration.Statement.{statement}
 use Rattle.memory_device.proofs.lent.configuration.Tie as tie
 
-device-ok-requires : tie.Need-device-ok-requires
-device-ok-requires c κs = search needs
-
 put-values-requires : tie.Need-put-values-requires
 put-values-requires c κs = (sound (c .before .before .before .before .before .before .args .device .now) _ (c .before .before .device-ok .ensures) (c .before .if2 .taken), c .before .before .before .if1 .taken)
-
-same-length : tie.Need-same-length
-same-length c = search needs
 
 returns : tie.Need-returns
 returns c = let a = c .before .before .before .before .before .before .before .before .before .args in
@@ -24,6 +18,4 @@ returns-3 : tie.Need-returns-3
 returns-3 c = let a = c .before .before .before .args in configures-length (a .device .now) (a .bytes .now) (c .if1 .left)
 
 pub configuration-spec : {M : Type 1} → statement M
-configuration-spec =
-    tie.close
-    (tie.spec device-ok-requires put-values-requires same-length returns returns-2 returns-3)
+configuration-spec = tie.close (tie.spec (λ c κs. search needs) put-values-requires (λ c. search needs) returns returns-2 returns-3)

@@ -8,14 +8,8 @@ use borrow.Author.Needs.{needs}
 use Rattle.memory_device.proofs.lent.set_requested_size.Statement.{statement}
 use Rattle.memory_device.proofs.lent.set_requested_size.Tie as tie
 
-device-ok-requires : tie.Need-device-ok-requires
-device-ok-requires c κs = search needs
-
 size-fault-requires : tie.Need-size-fault-requires
 size-fault-requires c κs = sound (c .before .before .before .before .before .args .device .now) _ (c .before .before .device-ok .ensures) (c .before .if1 .taken)
-
-same-length : tie.Need-same-length
-same-length c = search needs
 
 returns : tie.Need-returns
 unfolding resized
@@ -25,16 +19,10 @@ returns c = let a = c .before .before .before .before .before .before .before .a
 set-requested-requires : tie.Need-set-requested-requires
 set-requested-requires c κs = sound-length (c .before .before .before .before .before .before .before .before .args .device .now) _ (c .before .before .before .before .before .device-ok .ensures) (c .before .before .before .before .if1 .taken)
 
-same-length-2 : tie.Need-same-length-2
-same-length-2 c = search needs
-
 returns-2 : tie.Need-returns-2
 unfolding resized
 returns-2 c = let a = c .before .before .before .before .before .before .before .before .before .before .before .args in
     left-done (a .device .now) _ (c .before .before .before .before .before .before .before .before .device-ok .ensures) (c .before .before .before .before .before .before .before .if1 .taken) (λ (d : MemoryDevice). sizeFault d (a .size)) 14 (λ (d : MemoryDevice). withRequested d (a .size)) _ (sym (c .before .before .before .before .before .size-fault .ensures) ∙ c .before .before .before .before .if2 .left) (c .before .before .set-requested .ensures)
-
-same-length-3 : tie.Need-same-length-3
-same-length-3 c = search needs
 
 returns-3 : tie.Need-returns-3
 unfolding resized
@@ -43,13 +31,5 @@ returns-3 c = left-27 (c .before .before .before .before .args .device .now) _ (
 pub set-requested-size-spec : {M : Type 1} → statement M
 set-requested-size-spec =
     tie.close
-    (tie.spec
-    device-ok-requires
-    size-fault-requires
-    same-length
-    returns
-    set-requested-requires
-    same-length-2
-    returns-2
-    same-length-3
-    returns-3)
+    (tie.spec (λ c κs. search needs) size-fault-requires (λ c. search needs) returns set-requested-requires (λ c. search needs) returns-2
+    (λ c. search needs) returns-3)

@@ -8,22 +8,13 @@ use borrow.Author.Needs.{needs}
 use Rattle.memory_device.proofs.lent.system_reset.Statement.{statement}
 use Rattle.memory_device.proofs.lent.system_reset.Tie as tie
 
-device-ok-requires : tie.Need-device-ok-requires
-device-ok-requires c κs = search needs
-
 clear-tables-requires : tie.Need-clear-tables-requires
 clear-tables-requires c κs = sound-length (c .before .before .before .before .before .args .device .now) _ (c .before .before .device-ok .ensures) (c .before .if1 .taken)
-
-same-length : tie.Need-same-length
-same-length c = search needs
 
 returns : tie.Need-returns
 unfolding wasReset
 returns c = let a = c .before .before .before .before .before .before .before .before .args in
     left-done (a .device .now) _ (c .before .before .before .before .before .device-ok .ensures) (c .before .before .before .before .if1 .taken) (λ (d : MemoryDevice). false) 14 (λ (d : MemoryDevice). fresh d) _ refl (c .before .before .clear-tables .ensures)
-
-same-length-2 : tie.Need-same-length-2
-same-length-2 c = search needs
 
 returns-2 : tie.Need-returns-2
 unfolding wasReset
@@ -32,4 +23,4 @@ returns-2 c = left-27 (c .before .before .before .before .args .device .now) _ (
 pub system-reset-spec : {M : Type 1} → statement M
 system-reset-spec =
     tie.close
-    (tie.spec device-ok-requires clear-tables-requires same-length returns same-length-2 returns-2)
+    (tie.spec (λ c κs. search needs) clear-tables-requires (λ c. search needs) returns (λ c. search needs) returns-2)

@@ -9,33 +9,21 @@ use borrow.Author.Needs.{needs}
 use Rattle.memory_device.proofs.lent.unpin.Statement.{statement}
 use Rattle.memory_device.proofs.lent.unpin.Tie as tie
 
-device-ok-requires : tie.Need-device-ok-requires
-device-ok-requires c κs = search needs
-
 is-pinned-requires : tie.Need-is-pinned-requires
 is-pinned-requires c κs = sound-length (c .before .before .before .before .before .args .device .now) _ (c .before .before .device-ok .ensures) (c .before .if1 .taken)
 
 set-pin-requires : tie.Need-set-pin-requires
 set-pin-requires c κs = (sound-length (c .before .before .before .before .before .before .before .before .args .device .now) _ (c .before .before .before .before .before .device-ok .ensures) (c .before .before .before .before .if1 .taken), c .before .before .is-pinned .ensures .1 (c .before .if2 .taken))
 
-same-length : tie.Need-same-length
-same-length c = search needs
-
 returns : tie.Need-returns
 unfolding unpinned
 returns c = let a = c .before .before .before .before .before .before .before .before .before .before .before .args in
     left-done (a .device .now) _ (c .before .before .before .before .before .before .before .before .device-ok .ensures) (c .before .before .before .before .before .before .before .if1 .taken) (λ (d : MemoryDevice). not (isPinned d (a .block))) 15 (λ (d : MemoryDevice). withPins d (withPin (d .pinned) (a .block) false)) _ (ap not (sym (c .before .before .before .before .before .is-pinned .ensures .0) ∙ c .before .before .before .before .if2 .taken)) (c .before .before .set-pin .ensures)
 
-same-length-2 : tie.Need-same-length-2
-same-length-2 c = search needs
-
 returns-2 : tie.Need-returns-2
 unfolding unpinned
 returns-2 c = let a = c .before .before .before .before .before .before .before .args in
     left-fault (a .device .now) _ (c .before .before .before .before .device-ok .ensures) (c .before .before .before .if1 .taken) (λ (d : MemoryDevice). not (isPinned d (a .block))) 15 (λ (d : MemoryDevice). withPins d (withPin (d .pinned) (a .block) false)) Pin refl (ap not (sym (c .before .is-pinned .ensures .0) ∙ c .if2 .left))
-
-same-length-3 : tie.Need-same-length-3
-same-length-3 c = search needs
 
 returns-3 : tie.Need-returns-3
 unfolding unpinned
@@ -44,13 +32,5 @@ returns-3 c = left-27 (c .before .before .before .before .args .device .now) _ (
 pub unpin-spec : {M : Type 1} → statement M
 unpin-spec =
     tie.close
-    (tie.spec
-    device-ok-requires
-    is-pinned-requires
-    set-pin-requires
-    same-length
-    returns
-    same-length-2
-    returns-2
-    same-length-3
-    returns-3)
+    (tie.spec (λ c κs. search needs) is-pinned-requires set-pin-requires (λ c. search needs) returns (λ c. search needs) returns-2
+    (λ c. search needs) returns-3)

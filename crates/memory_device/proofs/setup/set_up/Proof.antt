@@ -25,31 +25,16 @@ ruled : (c : tie.After-setup-ok) → let a = c .before .before .before .before .
     c .setup-ok .result ≡ setupOk (a .values .«block_size») (a .values .addr .0) (regionSize (mapOf (a .map .now))) (a .values .«usable_size») (a .values .«requested_size»)
 ruled c = rw (← c .before .before .region-size .ensures) (c .setup-ok .ensures)
 
-check-map-requires : tie.Need-check-map-requires
-check-map-requires c κs = search needs
-
-accepts-requires : tie.Need-accepts-requires
-accepts-requires c κs = search needs
-
 region-size-requires : tie.Need-region-size-requires
 region-size-requires c κs = record { words = accepted-words _ _ (ok c); few = accepted-sound _ _ (ok c) .count }
-
-setup-ok-requires : tie.Need-setup-ok-requires
-setup-ok-requires c κs = search needs
 
 returns : tie.Need-returns
 returns c = let t = c .before .before .before .before in
     let passed = passed-reply (reply (t .before .before .check-map .result)) (sym (t .before .accepts .ensures) ∙ t .if1 .taken) in
     rw (passed, c .before .before .before .region-size .ensures) (set-up-done _ _ _ (ok t) (sym (ruled (c .before)) ∙ c .if2 .taken))
 
-no-device-requires : tie.Need-no-device-requires
-no-device-requires c κs = search needs
-
 returns-2 : tie.Need-returns-2
 returns-2 c = ap (with-device (plain 13)) (c .no-device .ensures) ∙ set-up-values _ _ _ (ok (c .before .before .before .before .before)) (sym (ruled (c .before .before)) ∙ c .before .if2 .left)
-
-no-device-requires-2 : tie.Need-no-device-requires-2
-no-device-requires-2 c κs = search needs
 
 returns-3 : tie.Need-returns-3
 returns-3 c = ap (with-device (reply (c .before .before .before .check-map .result))) (c .no-device2 .ensures) ∙ set-up-refused _ _ _ _ (c .before .before .before .check-map .ensures) (sym (c .before .before .accepts .ensures) ∙ c .before .if1 .left)
@@ -57,13 +42,5 @@ returns-3 c = ap (with-device (reply (c .before .before .before .check-map .resu
 pub set-up-spec : {M : Type 1} → statement M
 set-up-spec =
     tie.close
-    (tie.spec
-    check-map-requires
-    accepts-requires
-    region-size-requires
-    setup-ok-requires
-    returns
-    no-device-requires
-    returns-2
-    no-device-requires-2
-    returns-3)
+    (tie.spec (λ c κs. search needs) (λ c κs. search needs) region-size-requires (λ c κs. search needs) returns (λ c κs. search needs)
+    returns-2 (λ c κs. search needs) returns-3)

@@ -5,27 +5,8 @@ use borrow.Author.Needs.{needs}
 use Rattle.memory_device.proofs.device.MemoryDevice.configuration.Statement.{statement}
 use Rattle.memory_device.proofs.device.MemoryDevice.configuration.Tie as tie
 
-words-of-requires : tie.Need-words-of-requires
-words-of-requires c κs = search needs
-
-slice-aggregate-configuration : tie.Need-slice-aggregate-configuration
-slice-aggregate-configuration c = search needs
-
-slice-aggregate-configuration-2 : tie.Need-slice-aggregate-configuration-2
-slice-aggregate-configuration-2 c = search needs
-
-configuration-requires : tie.Need-configuration-requires
-configuration-requires c κs = search needs
-
 returns : tie.Need-returns
 returns c = configured-value (recordOf (c .before .before .before .before .before .args .self)) (c .before .before .before .before .words-of .result) _ _ (c .before .configuration .result) (c .before .before .before .before .words-of .ensures .1) (c .before .configuration .ensures)
 
 pub configuration-spec : {M : Type 1} → statement M
-configuration-spec =
-    tie.close
-    (tie.spec
-    words-of-requires
-    slice-aggregate-configuration
-    slice-aggregate-configuration-2
-    configuration-requires
-    returns)
+configuration-spec = tie.close (tie.spec (λ c κs. search needs) (λ c. search needs) (λ c. search needs) (λ c κs. search needs) returns)

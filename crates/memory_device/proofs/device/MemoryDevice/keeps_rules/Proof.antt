@@ -6,18 +6,8 @@ use borrow.Author.Needs.{needs}
 use Rattle.memory_device.proofs.device.MemoryDevice.keeps_rules.Statement.{statement}
 use Rattle.memory_device.proofs.device.MemoryDevice.keeps_rules.Tie as tie
 
-words-of-requires : tie.Need-words-of-requires
-words-of-requires c κs = search needs
-
-slice-aggregate-device-ok : tie.Need-slice-aggregate-device-ok
-slice-aggregate-device-ok c = search needs
-
-device-ok-requires : tie.Need-device-ok-requires
-device-ok-requires c κs = search needs
-
 returns : tie.Need-returns
 returns c = c .device-ok .ensures ∙ device-first (c .before .before .words-of .result) ∙ ap deviceOk (c .before .before .words-of .ensures .1)
 
 pub keeps-rules-spec : {M : Type 1} → statement M
-keeps-rules-spec =
-    tie.close (tie.spec words-of-requires slice-aggregate-device-ok device-ok-requires returns)
+keeps-rules-spec = tie.close (tie.spec (λ c κs. search needs) (λ c. search needs) (λ c κs. search needs) returns)

@@ -8,24 +8,6 @@ use borrow.Author.Needs.{needs}
 use Rattle.memory_device.proofs.device.MemoryDevice.pin.Statement.{statement}
 use Rattle.memory_device.proofs.device.MemoryDevice.pin.Tie as tie
 
-words-of-requires : tie.Need-words-of-requires
-words-of-requires c κs = search needs
-
-slice-aggregate-pin : tie.Need-slice-aggregate-pin
-slice-aggregate-pin c = search needs
-
-cast-pin : tie.Need-cast-pin
-cast-pin c = search needs
-
-pin-requires : tie.Need-pin-requires
-pin-requires c κs = search needs
-
-slice-aggregate-device-of : tie.Need-slice-aggregate-device-of
-slice-aggregate-device-of c = search needs
-
-device-of-requires : tie.Need-device-of-requires
-device-of-requires c κs = search needs
-
 returns : tie.Need-returns
 unfolding pinned
 returns c = let a = c .before .before .before .before .before .before .before .args in
@@ -35,11 +17,5 @@ returns c = let a = c .before .before .before .before .before .before .before .a
 pub pin-spec : {M : Type 1} → statement M
 pin-spec =
     tie.close
-    (tie.spec
-    words-of-requires
-    slice-aggregate-pin
-    cast-pin
-    pin-requires
-    slice-aggregate-device-of
-    device-of-requires
-    returns)
+    (tie.spec (λ c κs. search needs) (λ c. search needs) (λ c. search needs) (λ c κs. search needs) (λ c. search needs)
+    (λ c κs. search needs) returns)

@@ -9,21 +9,6 @@ use Rattle.memory_device.proofs.device.MemoryDevice.set_requested_size.
 }
 use Rattle.memory_device.proofs.device.MemoryDevice.set_requested_size.Tie as tie
 
-words-of-requires : tie.Need-words-of-requires
-words-of-requires c κs = search needs
-
-slice-aggregate-set-requested-size : tie.Need-slice-aggregate-set-requested-size
-slice-aggregate-set-requested-size c = search needs
-
-set-requested-size-requires : tie.Need-set-requested-size-requires
-set-requested-size-requires c κs = search needs
-
-slice-aggregate-device-of : tie.Need-slice-aggregate-device-of
-slice-aggregate-device-of c = search needs
-
-device-of-requires : tie.Need-device-of-requires
-device-of-requires c κs = search needs
-
 returns : tie.Need-returns
 unfolding resized
 returns c = let a = c .before .before .before .before .before .before .args in
@@ -33,10 +18,4 @@ returns c = let a = c .before .before .before .before .before .before .args in
 pub set-requested-size-spec : {M : Type 1} → statement M
 set-requested-size-spec =
     tie.close
-    (tie.spec
-    words-of-requires
-    slice-aggregate-set-requested-size
-    set-requested-size-requires
-    slice-aggregate-device-of
-    device-of-requires
-    returns)
+    (tie.spec (λ c κs. search needs) (λ c. search needs) (λ c κs. search needs) (λ c. search needs) (λ c κs. search needs) returns)

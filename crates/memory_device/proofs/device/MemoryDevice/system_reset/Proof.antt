@@ -8,21 +8,6 @@ use borrow.Author.Needs.{needs}
 use Rattle.memory_device.proofs.device.MemoryDevice.system_reset.Statement.{statement}
 use Rattle.memory_device.proofs.device.MemoryDevice.system_reset.Tie as tie
 
-words-of-requires : tie.Need-words-of-requires
-words-of-requires c κs = search needs
-
-slice-aggregate-system-reset : tie.Need-slice-aggregate-system-reset
-slice-aggregate-system-reset c = search needs
-
-system-reset-requires : tie.Need-system-reset-requires
-system-reset-requires c κs = search needs
-
-slice-aggregate-device-of : tie.Need-slice-aggregate-device-of
-slice-aggregate-device-of c = search needs
-
-device-of-requires : tie.Need-device-of-requires
-device-of-requires c κs = search needs
-
 returns : tie.Need-returns
 unfolding wasReset
 returns c = let a = c .before .before .before .before .before .before .args in
@@ -32,10 +17,4 @@ returns c = let a = c .before .before .before .before .before .before .args in
 pub system-reset-spec : {M : Type 1} → statement M
 system-reset-spec =
     tie.close
-    (tie.spec
-    words-of-requires
-    slice-aggregate-system-reset
-    system-reset-requires
-    slice-aggregate-device-of
-    device-of-requires
-    returns)
+    (tie.spec (λ c κs. search needs) (λ c. search needs) (λ c κs. search needs) (λ c. search needs) (λ c κs. search needs) returns)

@@ -8,24 +8,6 @@ use borrow.Author.Needs.{needs}
 use Rattle.memory_device.proofs.device.MemoryDevice.unpin.Statement.{statement}
 use Rattle.memory_device.proofs.device.MemoryDevice.unpin.Tie as tie
 
-words-of-requires : tie.Need-words-of-requires
-words-of-requires c κs = search needs
-
-slice-aggregate-unpin : tie.Need-slice-aggregate-unpin
-slice-aggregate-unpin c = search needs
-
-cast-unpin : tie.Need-cast-unpin
-cast-unpin c = search needs
-
-unpin-requires : tie.Need-unpin-requires
-unpin-requires c κs = search needs
-
-slice-aggregate-device-of : tie.Need-slice-aggregate-device-of
-slice-aggregate-device-of c = search needs
-
-device-of-requires : tie.Need-device-of-requires
-device-of-requires c κs = search needs
-
 returns : tie.Need-returns
 unfolding unpinned
 returns c = let a = c .before .before .before .before .before .before .before .args in
@@ -35,11 +17,5 @@ returns c = let a = c .before .before .before .before .before .before .before .a
 pub unpin-spec : {M : Type 1} → statement M
 unpin-spec =
     tie.close
-    (tie.spec
-    words-of-requires
-    slice-aggregate-unpin
-    cast-unpin
-    unpin-requires
-    slice-aggregate-device-of
-    device-of-requires
-    returns)
+    (tie.spec (λ c κs. search needs) (λ c. search needs) (λ c. search needs) (λ c κs. search needs) (λ c. search needs)
+    (λ c κs. search needs) returns)
