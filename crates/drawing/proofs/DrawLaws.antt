@@ -1,21 +1,21 @@
--- Laws of the drawing: where addresses lie to a region, and a row that is filled character by character. Assumes nothing.
+-- Laws of the drawing: where addresses lie to a region, and the text, character by character and row by row. Assumes nothing.
 use mathlib.Core.Path.{_≡_, refl, sym, ap, ap₂, _∙_}
 use mathlib.Core.Bool.{Bool, true, false, cond}
 use mathlib.Core.List.{List, [], _∷_, _++_}
-use mathlib.Core.Logic.{_⊎_, inl, inr, ⊎-elim}
-use Prim.Native.Nat.{ℕ, zero, suc, _+_, _-_, _^_, _≤_, _<_, min}
+use mathlib.Core.Logic.{⊎-elim}
+use Prim.Native.Nat.{ℕ, zero, suc, _+_, _-_, _*_, _^_, _≤_, _<_, min}
 use native.Mathlib.Nat.{mul-le-mul}
 use native.Mathlib.Numerals.{add-one}
 use native.Mathlib.Omega.{arith}
 use lib.Dec.{eqb, ltb}
-use lib.ListN.{length, take, replicate, set, getD, length-set}
+use lib.ListN.{length, set, getD, length-append}
+use lib.Seq.{sets}
 use borrow.Author.Tests.{lt-ltb, le-ltb, eq-eqb, ne-eqb, eqb-true, eqb-false}
 use Rattle.map_records.specs.Map.{region}
 use Rattle.region_map.specs.Fault.{parentOf}
 use Rattle.region_map.specs.Walk.{walkRoot}
 use Rattle.region_map.specs.Resolve.{refused, leads, resolved, ledBy}
-use Rattle.region_map.specs.Reply.{Reply, passes}
-use Rattle.region_map.specs.Check.{reply, judged, Accepted}
+use Rattle.region_map.specs.Check.{reply, Accepted}
 use Rattle.region_map.specs.declared.check.MapAnswer.{MapAnswer}
 use Rattle.region_map.specs.declared.resolve.Resolved.{Resolved}
 use Rattle.region_map.specs.declared.resolve.Resolution.{Resolution}
@@ -25,26 +25,19 @@ use Rattle.map_records.specs.declared.map.RegionMap.{RegionMap}
 use Rattle.map_records.specs.Words.{mapOf}
 use Rattle.region_map.proofs.Accepted.{accepted-sound}
 use Rattle.region_map.proofs.MapWords.{accepted-words}
-use Rattle.region_map.proofs.Replies.{refused-first}
-use Rattle.listing.specs.Text.{lineOf, Holds, Blank}
-use Rattle.listing.specs.declared.listing.Line.{Line}
-use Rattle.listing.proofs.LineLaws.{line-put, blank-put, line-of}
-use Rattle.drawing.specs.Drawing.{rowAt, RowIn, columnAddress, regionCell, characters, rowText, drawnRow}
+use Rattle.map_records.proofs.Order.{eq-or-not}
+use Rattle.map_records.proofs.StoreLaws.{sets-append}
+use Rattle.listing.proofs.TextLaws.{store-next}
+use Rattle.drawing.specs.Drawing.{rowAt, RowIn, columnAddress, regionCell, character, characters, rowText, rowsText}
+use Rattle.drawing.specs.declared.row.Row.{Row}
 use Rattle.drawing.specs.declared.row.Row.the-variants as row
 use Rattle.drawing.specs.Position.{entered, below, climb, located, Climbable, Drawable}
 use Rattle.drawing.specs.declared.position.Position.the-variants.{Aside, Outside, Inside}
 
-eq-or-not : (a b : ℕ) → (a ≡ b) ⊎ (a ≡ b → ⊥)
-eq-or-not a b = go (eqb a b) refl
-  where
-    go : (t : Bool) → eqb a b ≡ t → (a ≡ b) ⊎ (a ≡ b → ⊥)
-    go true e = inl (eqb-true a b e)
-    go false e = inr (eqb-false a b e)
-
 -- what acceptance gives
-accepted-climbable : (m : RegionMap) (length : ℕ) → Accepted m length → Climbable m
-accepted-climbable m length ok =
-    let s = accepted-sound m length ok in
+accepted-climbable : (m : RegionMap) (memory : ℕ) → Accepted m memory → Climbable m
+accepted-climbable m memory ok =
+    let s = accepted-sound m memory ok in
     let root : m .count - 1 < m .count = omega (arith, s .some) in
     record {
       some = s .some;
@@ -122,7 +115,7 @@ pub region-at : (m : RegionMap) (n c x y a b r : ℕ) → r ≡ regionCell m n x
 region-at m n c x y a b r e p q = rw (← p, ← q) e
 
 -- what the public walk says of an accepted map
-module _ (m : RegionMap) (length a : ℕ) (r : Resolution) (ok : Accepted m length) (e : ledBy r ≡ resolved m length a) where
+module _ (m : RegionMap) (memory a : ℕ) (r : Resolution) (ok : Accepted m memory) (e : ledBy r ≡ resolved m memory a) where
   pub led-to : (x : Resolved) → r ≡ Answered x → walkRoot m a ≡ x
   unfolding resolved Accepted
   led-to x p =
@@ -140,42 +133,36 @@ pub column-small : (size c : ℕ) → size ≤ 2 ^ 48 → c ≤ 64 → columnAdd
 unfolding columnAddress
 column-small size c h k = omega (arith, mul-le-mul h k)
 
--- the first k characters of a row stand in the text, and past them all is zero
-pub record Filled (f : ℕ → ℕ) (k : ℕ) (text : List ℕ) : Type 0 where
-  pub size : length text ≡ 80
-  pub holds : Holds (characters f k) (record { length = k; text = text })
-  pub blank : Blank (record { length = k; text = text })
-
-pub filled-none : (f : ℕ → ℕ) → Filled f 0 (replicate 80 0)
+-- ---- the text, character by character and row by row
+characters-length : (f : ℕ → ℕ) (k : ℕ) → length (characters f k) ≡ k
 unfolding characters
-filled-none f = record { size = refl; holds = record { text = refl; size = refl; room = omega arith }; blank = refl }
+characters-length f zero = refl
+characters-length f (suc k) = length-append (characters f k) (f k ∷ []) ∙ omega (arith, characters-length f k)
 
-pub filled-more : (f : ℕ → ℕ) (k : ℕ) (text : List ℕ) (byte : ℕ) → k < 80 → Filled f k text → byte ≡ f k → Filled f (k + 1) (set text k byte)
+pub character-more : (f : ℕ → ℕ) (old text : List ℕ) (at k byte : ℕ) → text ≡ sets old at (characters f k) → byte ≡ f k → set text (at + k) byte ≡ sets old at (characters f (k + 1))
 unfolding characters
-filled-more f k text byte h w e =
-    let p = line-put (record { length = k; text = text }) byte (w .size) h in
-    let q : take k text ++ (byte ∷ []) ≡ characters f (k + 1) = rw (add-one k) (ap₂ {C = List ℕ} (λ t x. t ++ (x ∷ [])) (w .holds .text) e) in
-    record {
-      size = length-set text k byte ∙ w .size;
-      holds = record { text = p .text ∙ q; size = p .size ∙ ap length q; room = p .room };
-      blank = blank-put (record { length = k; text = text }) byte (w .blank);
-    }
+character-more f old text at k byte e p =
+    ap₂ (λ (l : List ℕ) (b : ℕ). set l (at + k) b) e p ∙ store-next old at (characters f k) k (f k) (characters-length f k)
+    ∙ ap (λ (j : ℕ). sets old at (characters f j)) (sym (add-one k))
 
-pub filled-whole : (f : ℕ → ℕ) (k : ℕ) (text : List ℕ) → k ≡ 79 → Filled f k text → record { length = 79; text = text } ≡ lineOf (characters f 79)
-filled-whole f k text e w = let v = rw e at w in line-of (characters f 79) (record { length = 79; text = text }) (v .holds) (v .blank)
+row-length : (m : RegionMap) (r : Row) → length (rowText m r) ≡ 79
+unfolding rowText
+row-length m r = characters-length (character m r) 79
 
--- a row that is drawn, one past the last, and that of a refused map
-pub row-drawn : (m : RegionMap) (length w : ℕ) (l : Line) → Accepted m length → w < m .count + 3 → l ≡ lineOf (rowText m (rowAt (m .count) w)) → l ≡ lineOf (drawnRow m length w)
-unfolding drawnRow Accepted
-row-drawn m length w l ok h e = rw (ok, lt-ltb w (m .count + 3) h) e
+pub rows-length : (m : RegionMap) (w : ℕ) → length (rowsText m w) ≡ 79 * w
+unfolding rowsText
+rows-length m zero = refl
+rows-length m (suc w) =
+    length-append (rowsText m w) (rowText m (rowAt (m .count) w)) ∙ omega (arith, rows-length m w, row-length m (rowAt (m .count) w))
 
-pub row-past : (m : RegionMap) (length w : ℕ) → Accepted m length → m .count + 3 ≤ w → lineOf [] ≡ lineOf (drawnRow m length w)
-unfolding drawnRow Accepted
-row-past m length w ok h = rw (ok, le-ltb w (m .count + 3) h)
-
-pub row-refused : (m : RegionMap) (length w : ℕ) (r : Reply) → r ≡ judged m length → passes r ≡ false → lineOf [] ≡ lineOf (drawnRow m length w)
-unfolding drawnRow
-row-refused m length w r e p = ap lineOf (refused-first (λ _. []) _ r (judged m length) e p)
+pub row-more : (m : RegionMap) (old text new : List ℕ) (w : ℕ) (r : Row) → text ≡ sets old 0 (rowsText m w) → r ≡ rowAt (m .count) w → new ≡ sets text (79 * w) (rowText m r)
+    → new ≡ sets old 0 (rowsText m (w + 1))
+unfolding rowsText
+row-more m old text new w r e p q =
+    q ∙ ap₂ (λ (l : List ℕ) (x : Row). sets l (79 * w) (rowText m x)) e p
+    ∙ ap (λ (i : ℕ). sets (sets old 0 (rowsText m w)) i (rowText m (rowAt (m .count) w))) (let i : 79 * w ≡ 0 + length (rowsText m w) = omega (arith, rows-length m w) in i)
+    ∙ sym (sets-append old 0 (rowsText m w) (rowText m (rowAt (m .count) w)))
+    ∙ ap (λ (j : ℕ). sets old 0 (rowsText m j)) (sym (add-one w))
 
 ne-two : (w : ℕ) → (w ≡ 0 → ⊥) → (w ≡ 1 → ⊥) → 2 ≤ w
 ne-two zero p q = absurd (p refl)

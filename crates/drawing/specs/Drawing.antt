@@ -4,16 +4,18 @@ use mathlib.Core.List.{List, [], _∷_, _++_}
 use Prim.Native.Nat.{ℕ, zero, suc, _+_, _-_, _*_, _/_, _%_, _<_}
 use lib.Dec.{eqb, ltb}
 use lib.ListN.{getD}
-use Rattle.listing.specs.Text.{hexText}
+use Rattle.listing.specs.Text.{hexText, refusedText}
+use Rattle.map_records.specs.Words.{mapOf}
 use Rattle.map_records.specs.Map.{container, ram, mmio, alias, region}
 use Rattle.region_map.specs.Reply.{ifAccepted}
-use Rattle.region_map.specs.Check.{judged}
+use Rattle.region_map.specs.Check.{Accepted}
 use Rattle.region_map.specs.Walk.{walkRoot}
 use Rattle.region_map.specs.Flatten.{rootSize}
 use Rattle.map_records.specs.declared.map.RegionMap.{RegionMap}
 use Rattle.region_map.specs.declared.resolve.Resolved.{Resolved}
 use Rattle.region_map.specs.declared.resolve.Resolved.the-variants.{Nothing, At}
-use Rattle.drawing.specs.Position.{located}
+use Rattle.sheet.specs.Sheet.{Outcome, readSheet}
+use Rattle.drawing.specs.Position.{located, Drawable}
 use Rattle.drawing.specs.declared.position.Position.{Position}
 use Rattle.drawing.specs.declared.position.Position.the-variants.{Aside, Outside, Inside}
 use Rattle.drawing.specs.declared.row.Row.{Row}
@@ -139,6 +141,23 @@ characters f (suc n) = characters f n ++ (f n ∷ [])
 unfoldable pub rowText : RegionMap → Row → List ℕ
 rowText m row = characters (character m row) 79
 
--- row w of the drawing of a given map m over a memory of `length` bytes; a refused map has no drawing, and a drawing of n regions has n + 3 rows
-unfoldable pub drawnRow : RegionMap → ℕ → ℕ → List ℕ
-drawnRow m length w = ifAccepted (judged m length) (λ _. []) (cond (ltb w (m .count + 3)) (rowText m (rowAt (m .count) w)) [])
+-- the first n rows; a drawing of so many regions has three more
+unfoldable pub rowsText : RegionMap → ℕ → List ℕ
+rowsText m zero = []
+rowsText m (suc w) = rowsText m w ++ rowText m (rowAt (m .count) w)
+
+abbrev pub mapText : RegionMap → List ℕ
+mapText m = rowsText m (m .count + 3)
+
+-- what `draw` prints for the sheet s over a memory of so many bytes: the drawing of its map, or `refused N`
+abbrev pub sheetText : Outcome → List ℕ
+sheetText o = ifAccepted (o .reply) refusedText (mapText (o .map))
+
+unfoldable pub drawingText : List ℕ → ℕ → List ℕ
+drawingText s memory = sheetText (readSheet s memory)
+
+-- What the functions that draw promise each other: words of an accepted map, and a row of its drawing.
+pub record DrawnRow (w : List ℕ) (memory : ℕ) (row : Row) : Type 0 where
+  pub drawable : Drawable w
+  pub accepted : Accepted (mapOf w) memory
+  pub within : RowIn (mapOf w) row

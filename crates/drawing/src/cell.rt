@@ -6,7 +6,8 @@ ghost use Rattle.map_records.specs.Words.{mapOf};
 ghost use Rattle.region_map.specs.Walk.{walkRoot};
 ghost use Rattle.region_map.specs.Check.{Accepted};
 ghost use Rattle.drawing.specs.Position.{located, Drawable};
-ghost use Rattle.drawing.specs.Drawing.{columnAddress, addressCell, rulerCell, fill as fillOf, laterCell, regionCell, answerCell, cell as cellOf, RowIn};
+ghost use Rattle.drawing.specs.Drawing.{columnAddress, addressCell, rulerCell, fill as fillOf};
+ghost use Rattle.drawing.specs.Drawing.{laterCell, regionCell, answerCell, cell as cellOf, DrawnRow};
 use crate::label::digit;
 use crate::label::letter;
 use crate::position::Position;
@@ -106,7 +107,7 @@ fn answer_cell(map: &[u64], memory_length: u64, address: GuestAddress) -> u8
 
 // Column c of a row.
 pub fn cell(map: &[u64], memory_length: u64, row: Row, c: usize) -> u8
-    requires { ⌜ Drawable (now map) × Accepted (mapOf (now map)) «memory_length» × RowIn (mapOf (now map)) row × (c < 64) ⌝ }
+    requires { ⌜ DrawnRow (now map) «memory_length» row × (c < 64) ⌝ }
     ensures { λ r. ⌜ r ≡ cellOf (mapOf (now (map .entry))) row c ⌝ }
 {
     let last = region_count(map) - 1;

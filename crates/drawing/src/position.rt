@@ -1,11 +1,12 @@
 // Where guest addresses lie to a region, by the offsets of the regions above it.
 ghost use mathlib.Core.Path.{_≡_};
-ghost use Prim.Native.Nat.{_-_, _<_, min};
+ghost use Prim.Native.Nat.{_-_, _<_};
 ghost use Rattle.map_records.specs.Words.{mapOf};
 ghost use Rattle.drawing.specs.Position.{entered, located, Drawable};
 use map_records::map::GuestAddress;
 use map_records::map::Region;
 use map_records::map::RegionOffset;
+use map_records::numbers::least;
 use map_records::words::region_at;
 use map_records::words::region_count;
 use region_map::resolve::root_offset;
@@ -28,21 +29,12 @@ fn past(a: u64, offset: u64) -> u64
     a - offset
 }
 
-fn smaller(a: u64, b: u64) -> u64
-    ensures { λ r. ⌜ r ≡ min a b ⌝ }
-{
-    if a < b {
-        return a;
-    }
-    b
-}
-
 // A region with the offsets of its parent from `first` up to `end`.
 fn enter(region: Region, first: RegionOffset, end: RegionOffset) -> Position
     ensures { λ r. ⌜ r ≡ entered region (first .0) (end .0) ⌝ }
 {
     let from = past(first.0, region.offset);
-    let to = smaller(past(end.0, region.offset), region.size);
+    let to = least(past(end.0, region.offset), region.size);
     if from < to {
         return Position::Inside(RegionOffset(from), RegionOffset(to));
     }

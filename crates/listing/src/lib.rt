@@ -1,4 +1,3 @@
-// The lines that the programs print.
-mod line;
+// The text that `flatten` prints for a sheet, and texts in a lent buffer.
 pub mod listing;
-pub mod print;
+mod text;

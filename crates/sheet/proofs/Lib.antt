@@ -1,6 +1,7 @@
 pub mod Answers
 pub mod Example001
 mod NumberLaws
+pub mod ReadLaws
 mod RefusalLaws
 mod RegionLaws
 mod SheetLaws

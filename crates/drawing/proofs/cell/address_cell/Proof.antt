@@ -1,14 +1,12 @@
 -- `drawing::cell::address_cell` meets its contract. Assumes nothing.
 use Rattle.drawing.proofs.DrawLaws.{column-small}
-use Rattle.listing.proofs.LineLaws.{fewest-bound}
-use Rattle.drawing.specs.Drawing.{addressCell}
-use Rattle.listing.proofs.LineLaws.{hex-spelled}
+use Rattle.listing.proofs.TextLaws.{fewest-bound, hex-spelled}
 use mathlib.Core.Path.{_∙_, ap}
 use mathlib.Core.List.{List}
 use native.Mathlib.Omega.{arith}
 use Prim.Native.Nat.{ℕ, _/_, _*_, _%_, _≤_}
 use Rattle.listing.specs.Text.{hexText}
-use Rattle.drawing.specs.Drawing.{letterOf}
+use Rattle.drawing.specs.Drawing.{letterOf, addressCell}
 use borrow.Author.Needs.{needs}
 use Rattle.drawing.proofs.cell.address_cell.Statement.{statement}
 use Rattle.drawing.proofs.cell.address_cell.Tie as tie

@@ -31,28 +31,28 @@ next : (c : tie.After-column-address2) → c .column-address2 .result .0 ≡ col
 next c = c .column-address2 .ensures ∙ ap (λ (s : ℕ). columnAddress s (c .before .before .before .before .before .args .c + 1)) (root (c .before .before))
 
 region-count-requires : tie.Need-region-count-requires
-region-count-requires c κs = c .before .pre .0 .words
+region-count-requires c κs = c .before .pre .0 .drawable .words
 
 sub-last : tie.Need-sub-last
-sub-last c = omega (arith, c .region-count .ensures, c .before .before .pre .0 .climbable .some)
+sub-last c = omega (arith, c .region-count .ensures, c .before .before .pre .0 .drawable .climbable .some)
 
 region-at-requires : tie.Need-region-at-requires
 region-at-requires c κs =
-    let p = c .before .before .pre .0 in
+    let p = c .before .before .pre .0 .drawable in
     (p .words, omega (arith, c .region-count .ensures, p .climbable .some, p .climbable .count))
 
 column-address-requires : tie.Need-column-address-requires
 column-address-requires c κs =
     let p = c .before .before .before .pre in
-    (omega (arith, root c, p .0 .climbable .size), omega (arith, p .3))
+    (omega (arith, root c, p .0 .drawable .climbable .size), omega (arith, p .1))
 
 add-column-address : tie.Need-add-column-address
-add-column-address c = omega (arith, c .before .before .before .before .pre .3)
+add-column-address c = omega (arith, c .before .before .before .before .pre .1)
 
 column-address-requires-2 : tie.Need-column-address-requires-2
 column-address-requires-2 c κs =
     let p = c .before .before .before .before .pre in
-    (omega (arith, root (c .before), p .0 .climbable .size), omega (arith, p .3))
+    (omega (arith, root (c .before), p .0 .drawable .climbable .size), omega (arith, p .1))
 
 enum-told : tie.Need-enum-told
 enum-told c = search needs
@@ -61,7 +61,7 @@ address-cell-requires : tie.Need-address-cell-requires
 address-cell-requires c κs =
     let s = c .before .before .before .before in
     let p = s .before .before .before .pre in
-    (omega (arith, root s, p .0 .climbable .size), p .3)
+    (omega (arith, root s, p .0 .drawable .climbable .size), p .1)
 
 enum-told-2 : tie.Need-enum-told-2
 enum-told-2 c = search needs
@@ -76,14 +76,14 @@ region-cell-requires : tie.Need-region-cell-requires
 region-cell-requires c κs =
     let s = c .before .before .before .before in
     let p = s .before .before .before .before .pre in
-    let h : c .before .row .given .0 .0 < theMap (s .before) .count = rw (c .before .row .given .1) at (p .2) in
-    (p .0, h, omega (arith, address s, column-small _ (s .before .before .before .before .args .c) (p .0 .climbable .size) (omega (arith, p .3))))
+    let h : c .before .row .given .0 .0 < theMap (s .before) .count = rw (c .before .row .given .1) at (p .0 .within) in
+    (p .0 .drawable, h, omega (arith, address s, column-small _ (s .before .before .before .before .args .c) (p .0 .drawable .climbable .size) (omega (arith, p .1))))
 
 enum-told-3 : tie.Need-enum-told-3
 enum-told-3 c = search needs
 
 answer-cell-requires : tie.Need-answer-cell-requires
-answer-cell-requires c κs = c .before .before .before .before .before .before .before .pre .1
+answer-cell-requires c κs = c .before .before .before .before .before .before .before .pre .0 .accepted
 
 returns : tie.Need-returns
 returns c =

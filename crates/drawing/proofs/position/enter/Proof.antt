@@ -12,19 +12,19 @@ past-requires c κs = search needs
 past-requires-2 : tie.Need-past-requires-2
 past-requires-2 c κs = search needs
 
-smaller-requires : tie.Need-smaller-requires
-smaller-requires c κs = search needs
+least-requires : tie.Need-least-requires
+least-requires c κs = search needs
 
 returns : tie.Need-returns
 returns c =
     let s = c .before in
-    entered-inside _ _ _ _ _ (s .before .before .past .ensures) (s .smaller .ensures ∙ ap₂ min (s .before .past2 .ensures) refl) (c .if1 .taken)
+    entered-inside _ _ _ _ _ (s .before .before .past .ensures) (s .least .ensures ∙ ap₂ min (s .before .past2 .ensures) refl) (c .if1 .taken)
 
 returns-2 : tie.Need-returns-2
 returns-2 c =
     let s = c .before in
-    entered-not _ _ _ _ _ (s .before .before .past .ensures) (s .smaller .ensures ∙ ap₂ min (s .before .past2 .ensures) refl) (c .if1 .left)
+    entered-not _ _ _ _ _ (s .before .before .past .ensures) (s .least .ensures ∙ ap₂ min (s .before .past2 .ensures) refl) (c .if1 .left)
 
 pub enter-spec : {M : Type 1} → statement M
 enter-spec =
-    tie.close (tie.spec past-requires past-requires-2 smaller-requires returns returns-2)
+    tie.close (tie.spec past-requires past-requires-2 least-requires returns returns-2)

@@ -1,0 +1,29 @@
+-- The text that `flatten` prints ('Program: ..'). Assumes nothing: these are definitions.
+use mathlib.Core.List.{List, [], _∷_, _++_}
+use Prim.Native.Nat.{ℕ}
+use Rattle.map_records.specs.View.{entries}
+use Rattle.map_records.specs.declared.view.FlatRange.{FlatRange}
+use Rattle.region_map.specs.Reply.{ifAccepted}
+use Rattle.region_map.specs.Flatten as flat
+use Rattle.sheet.specs.Sheet as sheet
+use Rattle.listing.specs.Text.{hexText, decimalText, spaced, ended, refusedText}
+
+-- 'One line a run: first, last, node, offset; hex in lower case without prefix, the node in decimal, one space between'
+unfoldable pub rangeText : FlatRange → List ℕ
+rangeText r = spaced (hexText (r .first .0)) ++ spaced (hexText (r .last .0)) ++ spaced (decimalText (r .region)) ++ ended (hexText (r .offset .0))
+
+unfoldable pub rangesText : List FlatRange → List ℕ
+rangesText [] = []
+rangesText (x ∷ xs) = rangeText x ++ rangesText xs
+
+-- the lines of a flat list, or the refusal of making it: 12, for the map of an accepted sheet
+abbrev pub viewText : flat.Outcome → List ℕ
+viewText o = ifAccepted (o .reply) refusedText (rangesText (entries (o .view)))
+
+-- 'A refused sheet prints `refused N`'
+abbrev pub sheetText : ℕ → sheet.Outcome → List ℕ
+sheetText memory o = ifAccepted (o .reply) refusedText (viewText (flat.flattened (o .map) memory))
+
+-- the sheet s over a memory of so many bytes
+unfoldable pub listingText : List ℕ → ℕ → List ℕ
+listingText s memory = sheetText memory (sheet.readSheet s memory)

@@ -1,0 +1,143 @@
+-- What a caller of the reader knows of the sheet's map: a number is 0 where nothing is refused and only there, the lent words stand for the map, and the map of an accepted sheet is accepted. Assumes nothing.
+use mathlib.Core.Path.{_≡_, refl, sym, ap, _∙_}
+use mathlib.Core.Bool.{Bool, true, false, cond}
+use mathlib.Core.List.{List, [], _∷_, _++_}
+use Prim.Native.Nat.{ℕ, _<_}
+use native.Mathlib.Nat.{zero-add}
+use native.Mathlib.Omega.{arith}
+use lib.Dec.{eqb, ltb}
+use lib.ListN.{length, take, drop, getD, length-append}
+use lib.Seq.{take-at, drop-at}
+use borrow.Author.Tests.{eq-eqb, ne-eqb}
+use Rattle.map_records.specs.Words.{mapOf, mapWords}
+use Rattle.map_records.specs.declared.map.RegionMap.{RegionMap}
+use Rattle.map_records.proofs.GroupLaws.{Grouped}
+use Rattle.map_records.proofs.WordLaws.{regions-grouped, map-back}
+use Rattle.region_map.specs.Reply.{Reply, accepted, nodes, place, plain, passes, numberOf}
+use Rattle.region_map.specs.Check.{reply, countFault, judged, Accepted}
+use Rattle.region_map.specs.declared.check.MapAnswer.{MapAnswer}
+use Rattle.region_map.specs.declared.check.MapAnswer.the-variants as map
+use Rattle.region_map.proofs.Bools.{never}
+use Rattle.sheet.specs.Answer.{Read, got, refused, next, sheetReply}
+use Rattle.sheet.specs.Number.{number}
+use Rattle.sheet.specs.Sheet.{blankMap, regionsFrom, mapAt, Outcome, refusal, checked, finished, readSheet, Made, laidInto, readInto}
+use Rattle.sheet.specs.declared.answer.SheetAnswer.{SheetAnswer}
+use Rattle.sheet.specs.declared.answer.SheetAnswer.the-variants.{Short, Number, Count, Kind, Tail, Record, Checked}
+use Rattle.sheet.proofs.RefusalLaws.{number-not, regions-not}
+
+-- ---- a number is 0 where nothing is refused, and only there
+pub map-zero : (a : MapAnswer) → eqb (numberOf (reply a)) 0 ≡ passes (reply a)
+map-zero map.Accepted = refl
+map-zero map.Count = refl
+map-zero (map.Kind n) = refl
+map-zero (map.Field n) = refl
+map-zero (map.Link n) = refl
+map-zero (map.Memory i j) = refl
+map-zero (map.Managed i j) = refl
+map-zero (map.Port i j) = refl
+map-zero (map.Overlap i j) = refl
+
+sheet-zero : (a : SheetAnswer) → eqb (numberOf (sheetReply a)) 0 ≡ passes (sheetReply a)
+sheet-zero (Short p) = refl
+sheet-zero (Number p) = refl
+sheet-zero (Count p) = refl
+sheet-zero (Kind p) = refl
+sheet-zero (Tail p) = refl
+sheet-zero Record = refl
+sheet-zero (Checked a) = map-zero a
+
+-- ---- words fix the records that they stand for
+module _ {A : Type 0} {read : List ℕ → ℕ → A} {reads : List ℕ → ℕ → ℕ → List A} {put : A → List ℕ} {puts : List A → List ℕ} {k : ℕ} (s : Grouped read reads put puts k) (some : 0 < k) where
+  put-injective : (x y : A) → put x ≡ put y → x ≡ y
+  put-injective x y e = sym (back x) ∙ ap (λ (w : List ℕ). read w 0) e ∙ back y
+    where
+      back : (z : A) → read (put z) 0 ≡ z
+      back z = s .back (put z) 0 z (λ j h. ap (λ (i : ℕ). getD (put z) i 0) (zero-add j))
+
+  pub puts-injective : (xs ys : List A) → puts xs ≡ puts ys → xs ≡ ys
+  puts-injective [] [] e = refl
+  puts-injective [] (y ∷ ys) e =
+      absurd (omega (arith, ap length (sym (s .«put-none») ∙ e ∙ s .«put-more» y ys), length-append (put y) (puts ys), s .size y))
+  puts-injective (x ∷ xs) [] e =
+      absurd (omega (arith, ap length (sym (s .«put-none») ∙ sym e ∙ s .«put-more» x xs), length-append (put x) (puts xs), s .size x))
+  puts-injective (x ∷ xs) (y ∷ ys) e =
+      let p : put x ++ puts xs ≡ put y ++ puts ys = sym (s .«put-more» x xs) ∙ e ∙ s .«put-more» y ys in
+      let front = sym (take-at (put x) (puts xs) k (s .size x)) ∙ ap (take k) p ∙ take-at (put y) (puts ys) k (s .size y) in
+      let rest = sym (drop-at (put x) (puts xs) k (s .size x)) ∙ ap (drop k) p ∙ drop-at (put y) (puts ys) k (s .size y) in
+      (λ i. put-injective x y front i ∷ puts-injective xs ys rest i)
+
+map-words-injective : (m n : RegionMap) → mapWords m ≡ mapWords n → m ≡ n
+unfolding mapWords
+map-words-injective m n e =
+    let count : m .count ≡ n .count = ap (λ (l : List ℕ). getD l 0 0) e in
+    let regions = puts-injective regions-grouped (omega arith) (m .regions) (n .regions) (ap (drop 1) e) in
+    (λ i. record { count = count i; regions = regions i })
+
+-- ---- the map of an accepted sheet is accepted
+module _ (s : List ℕ) (memory : ℕ) where
+  abbrev Good : Outcome → Type 0
+  Good o = passes (o .reply) ≡ true → judged (o .map) memory ≡ accepted
+
+  good-either : (t : Bool) (x y : Outcome) → Good x → Good y → Good (cond t x y)
+  good-either true x y p q = p
+  good-either false x y p q = q
+
+  good-checked : (m : RegionMap) (j : Reply) → judged m memory ≡ j → Good (checked m j)
+  good-checked m accepted e p = e
+  good-checked m (nodes k i l) e p = absurd (never (sym p))
+  good-checked m (place k q) e p = absurd (never (sym p))
+  good-checked m (plain k) e p = absurd (never (sym p))
+
+  good-finished : (x : Read RegionMap) → ((r : Reply) → x ≡ refused r → passes r ≡ false) → Good (finished s memory x)
+  good-finished (got m at) h = good-either (ltb at (length s)) (refusal (place 5 at)) (checked m (judged m memory)) (λ p. absurd (never (sym p))) (good-checked m (judged m memory) refl)
+  good-finished (refused r) h = λ p. absurd (never (sym p ∙ h r refl))
+
+  map-not : (r : Reply) → mapAt s ≡ refused r → passes r ≡ false
+  unfolding mapAt
+  map-not = go (number s 0) refl
+    where
+      passing : Read RegionMap → Bool
+      passing (got m at) = true
+      passing (refused r) = passes r
+
+      chosen : (n then : ℕ) (t : Bool) (r : Reply) → cond t (refused (place 3 0)) (regionsFrom s n 0 (blankMap n) then) ≡ refused r → passes r ≡ false
+      chosen n then true r e = sym (ap passing e)
+      chosen n then false r e = regions-not s n 0 (blankMap n) then r e
+
+      go : (x : Read ℕ) → number s 0 ≡ x → (r : Reply)
+          → next x (λ n then. cond (countFault n) (refused (place 3 0)) (regionsFrom s n 0 (blankMap n) then)) ≡ refused r → passes r ≡ false
+      go (got n then) e r h = chosen n then (countFault n) r h
+      go (refused q) e r h = sym (ap passing h) ∙ number-not s 0 q e
+
+  pub sheet-accepted : passes (readSheet s memory .reply) ≡ true → Accepted (readSheet s memory .map) memory
+  unfolding readSheet Accepted
+  sheet-accepted p = good-finished (mapAt s) map-not p
+
+-- ---- a sheet that was read into lent words, with the number that was answered
+pub record ReadAs (o : Outcome) (n : ℕ) (words : List ℕ) : Type 0 where
+  pub number : n ≡ numberOf (o .reply)
+  pub refused : (n ≡ 0 → ⊥) → passes (o .reply) ≡ false
+  pub passed : n ≡ 0 → passes (o .reply) ≡ true
+  pub map : n ≡ 0 → mapOf words ≡ o .map
+
+module _ (s : List ℕ) (memory : ℕ) (old words : List ℕ) (a : SheetAnswer) (n : ℕ) (size : length old ≡ 289) (long : length words ≡ 289)
+    (e : sheetReply a ≡ readInto s memory old .reply) (w : words ≡ readInto s memory old .words) (k : n ≡ numberOf (sheetReply a)) where
+  into-words : readInto s memory old ≡ laidInto (readSheet s memory) old
+  unfolding readInto
+  into-words = rw (eq-eqb (length old) 289 size)
+
+  replied : sheetReply a ≡ readSheet s memory .reply
+  replied = e ∙ ap (λ (x : Made). x .reply) into-words
+
+  accepts : n ≡ 0 → passes (readSheet s memory .reply) ≡ true
+  accepts z = ap passes (sym replied) ∙ sym (sheet-zero a) ∙ eq-eqb _ 0 (sym k ∙ z)
+
+  pub read-as : ReadAs (readSheet s memory) n words
+  read-as =
+      record {
+        number = k ∙ ap numberOf replied;
+        refused = λ h. ap passes (sym replied) ∙ sym (sheet-zero a) ∙ ne-eqb _ 0 (λ z. h (k ∙ z));
+        passed = accepts;
+        map = λ z. map-words-injective (mapOf words) (readSheet s memory .map)
+            (map-back words long ∙ w ∙ ap (λ (x : Made). x .words) into-words ∙ ap (λ (b : Bool). cond b (mapWords (readSheet s memory .map)) old) (accepts z));
+      }
