@@ -7,7 +7,6 @@ use native.Mathlib.Nat.{div-lt-iff-lt-mul, le-div-iff-mul-le, pow-zero, pow-suc,
 use native.Mathlib.Decide.{decLe}
 use native.Mathlib.Numerals.{add-one}
 use native.Mathlib.Omega.{arith}
-use lib.Dec.{leb}
 use lib.ListN.{length, take, drop, set, getD, length-append, length-take}
 use lib.Seq.{sets, sets-eq, length-sets, take-suc, take-at, length-take-le}
 use borrow.Author.Tests.{lt-ltb, le-ltb, le-leb, lt-leb}

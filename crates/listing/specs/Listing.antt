@@ -2,6 +2,7 @@
 use mathlib.Core.List.{List, [], _∷_, _++_}
 use Prim.Native.Nat.{ℕ}
 use Rattle.map_records.specs.View.{entries}
+use Rattle.map_records.specs.declared.map.RegionMap.{RegionMap}
 use Rattle.map_records.specs.declared.view.FlatRange.{FlatRange}
 use Rattle.region_map.specs.Reply.{ifAccepted}
 use Rattle.region_map.specs.Flatten as flat
@@ -16,14 +17,18 @@ unfoldable pub rangesText : List FlatRange → List ℕ
 rangesText [] = []
 rangesText (x ∷ xs) = rangeText x ++ rangesText xs
 
--- the lines of a flat list, or the refusal of making it: 12, for the map of an accepted sheet
+-- the lines of a flat list, or the refusal of making it
 abbrev pub viewText : flat.Outcome → List ℕ
 viewText o = ifAccepted (o .reply) refusedText (rangesText (entries (o .view)))
 
+-- the map m over a memory of so many bytes: for the map of an accepted sheet, 12 alone is left to refuse it
+abbrev pub mapText : ℕ → RegionMap → List ℕ
+mapText memory m = viewText (flat.flattened m memory)
+
 -- 'A refused sheet prints `refused N`'
 abbrev pub sheetText : ℕ → sheet.Outcome → List ℕ
-sheetText memory o = ifAccepted (o .reply) refusedText (viewText (flat.flattened (o .map) memory))
+sheetText memory o = ifAccepted (o .reply) refusedText (mapText memory (o .map))
 
--- the sheet s over a memory of so many bytes
+-- the text of the sheet s over a memory of so many bytes
 unfoldable pub listingText : List ℕ → ℕ → List ℕ
 listingText s memory = sheetText memory (sheet.readSheet s memory)

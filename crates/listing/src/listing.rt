@@ -5,9 +5,8 @@ ghost use Prim.Native.Nat.{_+_, _≤_};
 ghost use lib.ListN.{length};
 ghost use Rattle.map_records.specs.View.{entries};
 ghost use Rattle.map_records.specs.Words.{mapOf, viewOf};
-ghost use Rattle.region_map.specs.Flatten.{flattened};
 ghost use Rattle.listing.specs.Text.{refusalText, Puts, Fills};
-ghost use Rattle.listing.specs.Listing.{rangeText, rangesText, viewText, listingText};
+ghost use Rattle.listing.specs.Listing.{rangeText, rangesText, mapText, listingText};
 use crate::text::put_all;
 use crate::text::put_decimal;
 use crate::text::put_hex;
@@ -72,7 +71,7 @@ fn put_ranges(view: &[u64], text: &mut [u8]) -> usize
 
 // The flat view of a map that is judged first, or its refusal.
 fn list_map(map: &[u64], memory_length: u64, out: &mut [u8]) -> usize
-    ensures { λ r. ⌜ Fills (viewText (flattened (mapOf (now (map .entry))) «memory_length»)) (now (out .entry)) r (now (out .exit)) ⌝ }
+    ensures { λ r. ⌜ Fills (mapText «memory_length» (mapOf (now (map .entry)))) (now (out .entry)) r (now (out .exit)) ⌝ }
     ensures { λ r. ⌜ r ≤ 20480 ⌝ }
 {
     let mut flat = [0u64; 1537];

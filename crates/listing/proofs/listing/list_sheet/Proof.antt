@@ -1,21 +1,14 @@
 -- `listing::listing::list_sheet` meets its contract. Assumes nothing.
-use mathlib.Core.List.{List}
 use Prim.Native.Nat.{ℕ}
 use native.Mathlib.Omega.{arith}
 use lib.ListN.{length-replicate}
-use Rattle.map_records.specs.declared.map.RegionMap.{RegionMap}
-use Rattle.region_map.specs.Flatten.{flattened}
 use Rattle.sheet.specs.Sheet.{readSheet}
 use Rattle.sheet.proofs.ReadLaws.{ReadAs, read-as}
-use Rattle.listing.specs.Listing.{viewText, listingText}
+use Rattle.listing.specs.Listing.{mapText, listingText}
 use Rattle.listing.proofs.TextLaws.{sheet-refused, sheet-passed}
 use borrow.Author.Needs.{needs}
 use Rattle.listing.proofs.listing.list_sheet.Statement.{statement}
 use Rattle.listing.proofs.listing.list_sheet.Tie as tie
-
--- the text of a map
-abbrev text : ℕ → RegionMap → List ℕ
-text memory m = viewText (flattened m memory)
 
 -- what reading the sheet gave
 told : (c : tie.After-number-of) → ReadAs (readSheet (c .before .before .before .before .before .before .args .sheet .now) (c .before .before .before .before .before .before .args .memory-length)) (c .number-of .result) (c .before .before .read-sheet .last .1 .1 .0)
@@ -43,7 +36,7 @@ unfolding listingText
 returns c =
     let m = told (c .before .before .before .before .before) in
     let r = c .before .before .refuse .ensures in
-    (sheet-refused m (text _) (c .before .before .before .before .if1 .taken) (r .0), omega (arith, r .1))
+    (sheet-refused m (mapText _) (c .before .before .before .before .if1 .taken) (r .0), omega (arith, r .1))
 
 slice-aggregate-list-map : tie.Need-slice-aggregate-list-map
 slice-aggregate-list-map c = search needs
@@ -60,7 +53,7 @@ returns-2 c =
     let m = told (c .before .before .before .before .before .before) in
     let z = c .before .before .before .before .before .if1 .left in
     let l = c .before .before .list-map .ensures in
-    (sheet-passed m (text _) z (l .0), l .1)
+    (sheet-passed m (mapText _) z (l .0), l .1)
 
 pub list-sheet-spec : {M : Type 1} → statement M
 list-sheet-spec =

@@ -1,9 +1,8 @@
 -- `listing::listing::put_ranges` meets its contract. Assumes nothing.
-use mathlib.Core.Path.{_≡_, ap, subst, _∙_}
-use mathlib.Core.List.{List}
+use mathlib.Core.Path.{_≡_, subst}
 use Prim.Native.Nat.{ℕ, _-_, _*_, _≤_}
 use native.Mathlib.Omega.{arith}
-use lib.ListN.{length, take}
+use lib.ListN.{take}
 use Rattle.map_records.specs.Words.{viewOf}
 use Rattle.map_records.proofs.WordLaws.{full-words}
 use Rattle.listing.specs.Text.{Puts}
