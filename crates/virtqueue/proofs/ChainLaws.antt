@@ -10,7 +10,7 @@ use lib.Seq.{sets, sets-eq, length-sets, take-at, length-take-le, drop-drop}
 use borrow.Author.Tests.{lt-ltb, le-ltb}
 use Rattle.guest_view.specs.Guest.{byteAt, addresses, numberAt}
 use Rattle.device_words.specs.Bytes.{numberBy}
-use Rattle.virtqueue.specs.Chain.{Chain, Entry, out, here, whole, ended, element, Following, onward, astray, nextBelow, goOn, hasNext, isWritable, misplaced, visit, follow, endOf, readable, writable, total, firstBytes, descriptorAt}
+use Rattle.virtqueue.specs.Chain.{Chain, Entry, out, here, whole, ended, element, Following, onward, astray, nextBelow, hasNext, isWritable, misplaced, visit, follow, endOf, readable, writable, total, firstBytes, descriptorAt}
 use Rattle.virtqueue.specs.Step.{requestBytes, responsePlaces}
 use Rattle.virtqueue.specs.Contracts.{Got, added, stopAt, Visits, Gathers}
 use Rattle.virtqueue.specs.declared.chain.Descriptor.{Descriptor}

@@ -16,8 +16,8 @@ use Rattle.device_words.proofs.DeviceWords.{device-at, device-none, none-refuse
 use Rattle.guest_view.specs.View.{viewOk}
 use Rattle.virtqueue.specs.Does.{laid}
 use Rattle.virtqueue.specs.Queue.{queueOk}
-use Rattle.guest_view.specs.Guest.{Guest, byView}
-use Rattle.virtqueue.specs.Step.{Offer, stop, nothing, ready, offered, requestBytes, carrying, Effect, finished, steppedBy, recordsOk, stepped}
+use Rattle.guest_view.specs.Guest.{Guest}
+use Rattle.virtqueue.specs.Step.{Offer, stop, nothing, ready, offered, requestBytes, carrying, finished, steppedBy, recordsOk}
 use Rattle.virtqueue.specs.declared.queue.SplitQueue.{SplitQueue}
 
 -- the lengths of a record's two tables

@@ -1,14 +1,13 @@
 -- The words that making a view leaves stand for the view of an accepted map. Assumes nothing.
 use mathlib.Core.Path.{_≡_, refl, sym, ap, _∙_}
 use mathlib.Core.Bool.{Bool, true, false, cond}
-use mathlib.Core.List.{List, [], _∷_, _++_}
-use Prim.Native.Nat.{ℕ, suc, _+_, _-_, _*_, _≤_, _<_}
+use mathlib.Core.List.{List, [], _∷_}
+use Prim.Native.Nat.{ℕ, _-_, _*_, _≤_, _<_}
 use native.Mathlib.Decide.{decLt}
 use native.Mathlib.Omega.{arith}
-use lib.Dec.{eqb}
 use lib.ListN.{length, replicate, length-append, length-replicate}
 use Rattle.map_records.specs.View.{noRange}
-use Rattle.map_records.specs.Words.{viewOf, rangeWords, rangesWords, viewWords}
+use Rattle.map_records.specs.Words.{viewOf, eachWords, rangeWords, viewWords}
 use Rattle.map_records.specs.declared.map.RegionMap.{RegionMap}
 use Rattle.map_records.specs.declared.view.FlatRange.{FlatRange}
 use Rattle.map_records.specs.declared.view.FlatView.{FlatView}
@@ -21,13 +20,13 @@ use Rattle.region_map.specs.Flatten as flatten
 use Rattle.region_map.proofs.Demand3.{demand3-first-half, refused-12}
 
 -- the words of a view stand for it
-ranges-length : (rs : List FlatRange) → length (rangesWords rs) ≡ 6 * length rs
-unfolding rangesWords
+ranges-length : (rs : List FlatRange) → length (eachWords rangeWords rs) ≡ 6 * length rs
+unfolding eachWords
 ranges-length [] = refl
-ranges-length (r ∷ rs) = length-append (rangeWords r) (rangesWords rs) ∙ omega (arith, ranges-length rs)
+ranges-length (r ∷ rs) = length-append (rangeWords r) (eachWords rangeWords rs) ∙ omega (arith, ranges-length rs)
 
-ranges-same : (rs ss : List FlatRange) → length rs ≡ length ss → rangesWords rs ≡ rangesWords ss → rs ≡ ss
-unfolding rangesWords
+ranges-same : (rs ss : List FlatRange) → length rs ≡ length ss → eachWords rangeWords rs ≡ eachWords rangeWords ss → rs ≡ ss
+unfolding eachWords
 ranges-same [] [] l e = refl
 ranges-same [] (s ∷ ss) l e = absurd (omega arith)
 ranges-same (r ∷ rs) [] l e = absurd (omega arith)
@@ -38,7 +37,7 @@ ranges-same (r ∷ rs) (s ∷ ss) l e =
     let d : r .offset .0 ≡ s .offset .0 = cc in
     let k : r .kind ≡ s .kind = cc in
     let x : r .base ≡ s .base = cc in
-    let t : rangesWords rs ≡ rangesWords ss = cc in
+    let t : eachWords rangeWords rs ≡ eachWords rangeWords ss = cc in
     let rest = ranges-same rs ss (omega arith) t in
     λ i. record { first = record { 0 = a i }; last = record { 0 = b i }; region = c i; offset = record { 0 = d i }; kind = k i; base = x i } ∷ rest i
 
@@ -49,7 +48,7 @@ words-view v h =
     let e : viewWords (viewOf (viewWords v)) ≡ viewWords v = view-back (viewWords v) size in
     let w : FlatView = viewOf (viewWords v) in
     let c : w .count ≡ v .count = cc in
-    let t : rangesWords (w .ranges) ≡ rangesWords (v .ranges) = cc in
+    let t : eachWords rangeWords (w .ranges) ≡ eachWords rangeWords (v .ranges) = cc in
     let r = ranges-same (w .ranges) (v .ranges) (full-words (viewWords v) ∙ sym h) t in
     λ i. record { count = c i; ranges = r i }
 

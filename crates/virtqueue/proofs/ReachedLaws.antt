@@ -1,14 +1,14 @@
 -- What a step takes of a chain is reachable: of every chain the elements that were accepted are, and so is each address of their first bytes. Assumes nothing.
-use mathlib.Core.Path.{_≡_, refl, sym, ap, ap₂, _∙_}
-use mathlib.Core.Bool.{Bool, true, false, cond, _&&_, _||_}
+use mathlib.Core.Path.{_≡_, refl, ap, ap₂}
+use mathlib.Core.Bool.{Bool, true, false, cond}
 use mathlib.Core.List.{List, [], _∷_, _++_, map}
-use Prim.Native.Nat.{ℕ, zero, suc, _+_, _-_, _*_, _≤_, _<_, min}
+use Prim.Native.Nat.{ℕ, zero, suc, _+_, _-_, _*_, _≤_, min}
 use native.Mathlib.Omega.{arith}
 use lib.ListN.{getD}
 use Rattle.region_map.proofs.Bools.{and-fst, and-snd}
 use Rattle.guest_view.specs.Guest.{Guest, allReach, addresses, byteAt, numberAt}
 use Rattle.device_words.specs.Bytes.{numberBy}
-use Rattle.virtqueue.specs.Chain.{Chain, Entry, out, here, whole, ended, rejected, element, Following, onward, astray, nextBelow, goOn, misplaced, hasNext, isWritable, visit, follow, readable, writable, firstBytes, fetched, reached, chainAt}
+use Rattle.virtqueue.specs.Chain.{Chain, Entry, out, here, whole, ended, rejected, element, Following, onward, astray, nextBelow, goOn, misplaced, hasNext, isWritable, visit, follow, readable, writable, firstBytes, fetched, chainAt}
 use Rattle.virtqueue.specs.declared.chain.Descriptor.{Descriptor}
 
 -- a fact of each of a list

@@ -1,14 +1,13 @@
 -- Laws of many accesses at once: four words stored, the answers written in turn, and what judging the records once gives. Assumes nothing.
 use mathlib.Core.Path.{_≡_, refl, sym, ap, _∙_, fun-ext}
 use mathlib.Core.Bool.{Bool, true, false, _&&_}
-use mathlib.Core.List.{List, [], _∷_, _++_, append-nil}
+use mathlib.Core.List.{List}
 use Prim.Native.Nat.{ℕ, zero, suc, _+_, _-_, _*_, _/_, _%_, _≤_, _<_}
-use native.Mathlib.Nat.{add-zero, add-suc, suc-add}
 use native.Mathlib.Numerals.{add-one}
 use native.Mathlib.Omega.{arith}
 use lib.Dec.{eqb}
-use lib.ListN.{replicate, length, set, getD, length-append, drop-of-length-le}
-use lib.Seq.{sets, sets-eq}
+use lib.ListN.{replicate, length, getD, length-append}
+use lib.Seq.{sets}
 use borrow.Author.Tests.{eqb-true, eqb-false, eq-eqb, ne-eqb}
 use Rattle.region_map.proofs.Bools.{and-fst, and-snd, and-true, and-off}
 use Rattle.map_records.specs.View.{entries}
@@ -20,7 +19,7 @@ use Rattle.device_words.proofs.RuleLaws.{device-valid}
 use Rattle.guest_view.specs.Guest.{leafAt}
 use Rattle.guest_view.specs.View.{viewOk, noRegionBound}
 use Rattle.virtqueue.specs.Route.{Routed, refused, toMemory, toPort, routed, routedWith, routedWithout, answerWords, answersTo, answersFit, allRouted, allWith, allWithout}
-use Rattle.map_records.proofs.StoreLaws.{stored, sets-append, over}
+use Rattle.map_records.proofs.StoreLaws.{sets-append, over}
 use Rattle.virtqueue.proofs.RouteLaws.{nothing-plugged}
 
 -- ---- do the answers fit the accesses?

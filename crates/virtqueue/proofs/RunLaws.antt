@@ -22,7 +22,7 @@ use Rattle.virtqueue.specs.declared.run.RunEnd.{RunEnd}
 use Rattle.virtqueue.specs.declared.run.RunEnd.the-variants as end
 use Rattle.virtqueue.specs.declared.run.Ran.{Ran}
 use Rattle.device_words.specs.Words.{isDevice, deviceOf, deviceWords}
-use Rattle.virtqueue.specs.Does.{answerOf, laid}
+use Rattle.virtqueue.specs.Does.{answerOf}
 use Rattle.virtqueue.proofs.DeviceLaws.{tables, step-tables, words-of, laid-back, full}
 use Rattle.virtqueue.proofs.StepLaws.{Left}
 use Rattle.virtqueue.proofs.RunSteps.{step-kept, judgedStep, run-is-steps}

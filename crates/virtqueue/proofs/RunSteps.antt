@@ -8,7 +8,7 @@ use lib.ListN.{length, set, length-set}
 use Rattle.map_records.specs.declared.view.FlatView.{FlatView}
 use Rattle.region_map.proofs.Bools.{and-fst, and-snd, and-true}
 use Rattle.device_words.specs.Device.{deviceOk, withTables}
-use Rattle.device_words.specs.Request.{requestOf, answered, isAck, acknowledged, changedBy, carriedOut}
+use Rattle.device_words.specs.Request.{requestOf, answered, isAck, acknowledged, changedBy}
 use Rattle.device_words.specs.Device.{MemoryDevice}
 use Rattle.device_words.specs.declared.request.Request.{Request}
 use Rattle.device_words.specs.declared.request.Response.{Response}
@@ -16,7 +16,7 @@ use Rattle.guest_view.specs.Guest.{Guest, written, byView}
 use Rattle.guest_view.specs.View.{viewOk}
 use Rattle.virtqueue.specs.Queue.{queueOk}
 use Rattle.virtqueue.specs.Step.{Answer, refused, idle, served, Offer, stop, nothing, ready, offered, requestBytes, responsePlaces, carrying, Effect, unmoved, finished, steppedBy, recordsOk, stepped}
-use Rattle.virtqueue.specs.Run.{RunEffect, runEnds, refusedBy, goesOn, stepsBy, singleSteps, ran}
+use Rattle.virtqueue.specs.Run.{runEnds, refusedBy, goesOn, stepsBy, singleSteps, ran}
 use Rattle.virtqueue.specs.declared.queue.SplitQueue.{SplitQueue}
 use Rattle.device_words.proofs.Kept.{change-kept}
 

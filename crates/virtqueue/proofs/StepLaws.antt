@@ -5,7 +5,7 @@ use mathlib.Core.List.{List, [], _∷_, _++_, map}
 use Prim.Native.Nat.{ℕ, zero, suc, _+_, _/_, _%_, _^_, _≤_, _<_}
 use native.Mathlib.Omega.{arith}
 use native.Mathlib.Nat.{add-zero, mod-eq-of-lt}
-use lib.Dec.{eqb, ltb}
+use lib.Dec.{eqb}
 use lib.ListN.{length, getD, set, replicate}
 use lib.Seq.{sets}
 use borrow.Author.Tests.{eq-eqb}
@@ -17,10 +17,10 @@ use Rattle.device_words.specs.Bytes.{le}
 use Rattle.device_words.specs.Device.{deviceOk}
 use Rattle.device_words.specs.Device.{pluggedAt}
 use Rattle.device_words.specs.Device.{MemoryDevice}
-use Rattle.guest_view.specs.Guest.{leafAt, Guest, allReach, addresses, numberAt, written, byView}
-use Rattle.virtqueue.specs.Queue.{queueOk, ringEntry, usedEntry, usedIdx, nextIndex, stoppedBy, advanced}
+use Rattle.guest_view.specs.Guest.{leafAt, Guest, allReach, addresses, byView}
+use Rattle.virtqueue.specs.Queue.{queueOk, usedEntry, usedIdx, nextIndex, stoppedBy, advanced}
 use Rattle.virtqueue.specs.Chain.{Chain, writable, firstBytes, shapeOf}
-use Rattle.virtqueue.specs.Step.{refused, idle, served, Way, halted, quiet, along, wayOf, chainOf, usedReached, Offer, stop, nothing, ready, offerChain, offerOf, offered, requestBytes, responsePlaces, usedPlaces, usedBytes, carrying, servedMemory, steppedBy, recordsOk, stepped}
+use Rattle.virtqueue.specs.Step.{Way, halted, quiet, along, wayOf, chainOf, usedReached, Offer, stop, nothing, ready, offerChain, offerOf, offered, requestBytes, responsePlaces, usedPlaces, usedBytes, carrying, servedMemory, steppedBy, recordsOk, stepped}
 use Rattle.guest_view.specs.View.{viewOk}
 use Rattle.guest_view.specs.Contracts.{memoryLeaf, Ordered, Backed, InMemory, Within, placeIn}
 use Rattle.virtqueue.specs.Contracts.{UsedIn, Takes}
@@ -30,8 +30,8 @@ use Rattle.virtqueue.specs.declared.take.TakenOffer.the-variants as offe
 use Rattle.virtqueue.specs.declared.step.StepOutcome.the-variants.{Refused, Idle, Served}
 use Rattle.virtqueue.specs.declared.step.Moved.{Moved}
 use Rattle.device_words.specs.Words.{deviceOf, deviceWords}
-use Rattle.virtqueue.specs.Does.{laid, DoesIn}
-use Rattle.virtqueue.proofs.DeviceLaws.{words-of, laid-back, full}
+use Rattle.virtqueue.specs.Does.{DoesIn}
+use Rattle.virtqueue.proofs.DeviceLaws.{laid-back}
 use Rattle.guest_view.proofs.GuestLaws.{all-memory, reach-memory, place-below}
 use Rattle.virtqueue.proofs.QueueLaws.{queue-facts}
 use Rattle.virtqueue.proofs.WayLaws.{way-along}

@@ -12,7 +12,7 @@ use borrow.Author.Tests.{lt-ltb, le-ltb, lt-leb, le-leb, eq-eqb, ne-eqb, ltb-tru
 use Rattle.guest_view.specs.Guest.{Guest, allReach, byteAt, numberAt}
 use Rattle.virtqueue.specs.Queue.{ringEntry, usedEntry, distance}
 use Rattle.virtqueue.specs.Chain.{Chain, endOf, readable, writable, total, firstBytes, shapeOf}
-use Rattle.virtqueue.specs.Step.{wayOf, notifies, usedReached, stop, ready, offerChain, offerOf, offered, requestBytes, responsePlaces}
+use Rattle.virtqueue.specs.Step.{notifies, usedReached, stop, ready, offerChain, offerOf, offered, requestBytes, responsePlaces}
 use Rattle.virtqueue.specs.Contracts.{gotOf, Gathers, shapeFrom, noticesOf, headOf, headWay, noticesWay}
 use Rattle.virtqueue.specs.declared.chain.Gathered.{Gathered}
 use Rattle.virtqueue.specs.declared.queue.SplitQueue.{SplitQueue}

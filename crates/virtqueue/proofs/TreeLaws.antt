@@ -1,22 +1,20 @@
 -- The guest through a made view is the guest through the tree. Assumes nothing.
-use mathlib.Core.Path.{_≡_, refl, sym, ap, ap₂, _∙_}
-use mathlib.Core.Bool.{Bool, true, false, cond, _&&_, _||_}
+use mathlib.Core.Path.{_≡_, refl, ap, ap₂, _∙_}
+use mathlib.Core.Bool.{Bool, true, false, cond}
 use mathlib.Core.List.{List, [], _∷_}
 use Prim.Native.Nat.{ℕ, _+_, _-_, _≤_}
 use lib.ListN.{length}
 use Rattle.region_map.specs.Check.{Accepted}
-use Rattle.region_map.specs.Walk.{walkRoot}
 use Rattle.region_map.specs.FlatList.{inside, answerOf, lookup, Entry, Longest}
 use Rattle.region_map.specs.Flatten.{backingOf, flatList, viewHolding}
 use Rattle.map_records.specs.View.{entries}
 use Rattle.map_records.specs.declared.map.RegionMap.{RegionMap}
-use Rattle.region_map.specs.declared.resolve.Resolved.{Resolved}
 use Rattle.map_records.specs.declared.view.FlatRange.{FlatRange}
 use Rattle.region_map.proofs.Demand3.{demand3-first-half}
 use Rattle.region_map.proofs.UniqueLaws.{sound}
 use Rattle.device_words.specs.Device.{pluggedAt}
 use Rattle.device_words.specs.Device.{MemoryDevice}
-use Rattle.guest_view.specs.Guest.{Leaf, leaf, leafIn, leafAt, leafOf, treeLeaf, Guest, guestBy, byView, byTree}
+use Rattle.guest_view.specs.Guest.{leaf, leafIn, leafAt, leafOf, treeLeaf, guestBy, byView, byTree}
 
 -- an entry that carries its region's values answers as its region does
 entry-leaf : (m : RegionMap) (x : FlatRange) (a : ℕ) → Entry (backingOf m) x → leafIn x a ≡ leafOf m (answerOf x a)

@@ -1,13 +1,13 @@
 -- A map with no managed region: a step over its view, with a device record of any region. Assumes nothing.
 use mathlib.Core.Path.{_≡_, refl, sym, ap, ap₂, _∙_, fun-ext, subst}
-use mathlib.Core.Bool.{Bool, true, false, cond, _&&_, _||_}
+use mathlib.Core.Bool.{Bool, false, cond, _&&_}
 use mathlib.Core.List.{List}
 use Prim.Native.Nat.{ℕ, zero, suc, _≤_, _<_}
 use native.Mathlib.Omega.{arith}
-use lib.Dec.{eqb, leb}
+use lib.Dec.{leb}
 use lib.ListN.{length}
 use borrow.Author.Tests.{ne-eqb}
-use Rattle.map_records.specs.Map.{ram, managed, region}
+use Rattle.map_records.specs.Map.{managed, region}
 use Rattle.map_records.specs.View.{rangeOf}
 use Rattle.map_records.specs.Words.{mapOf, viewOf}
 use Rattle.map_records.specs.declared.map.RegionMap.{RegionMap}
@@ -22,7 +22,7 @@ use Rattle.region_map.proofs.LeafLaws.{root-leaf}
 use Rattle.device_words.specs.Table.{allBelow}
 use Rattle.device_words.specs.Device.{MemoryDevice, deviceOk, pluggedAt}
 use Rattle.device_words.specs.Words.{deviceOf}
-use Rattle.guest_view.specs.Guest.{Guest, leafOf, treeLeaf, reachLeaf, placeLeaf, byView, byTree}
+use Rattle.guest_view.specs.Guest.{Guest, leafOf, treeLeaf, reachLeaf, placeLeaf, byTree}
 use Rattle.guest_view.specs.View.{rangeOk, entryOk, viewOk, noRegionBound}
 use Rattle.virtqueue.specs.Queue.{queueOk}
 use Rattle.virtqueue.specs.Step.{refused, unmoved, steppedBy, recordsOk, stepped}

@@ -9,7 +9,7 @@ use borrow.Author.Tests.{lt-ltb, le-ltb, lt-leb, le-leb, eq-eqb, ne-eqb, ltb-tru
 use Rattle.guest_view.specs.Guest.{Guest, allReach}
 use Rattle.virtqueue.specs.Queue.{ringEntry}
 use Rattle.virtqueue.specs.Chain.{Chain}
-use Rattle.virtqueue.specs.Step.{Way, halted, quiet, along, unless, flags, idx, entry, offers, notifies, chainOf, wayOf}
+use Rattle.virtqueue.specs.Step.{halted, quiet, along, unless, flags, idx, entry, offers, notifies, chainOf, wayOf}
 use Rattle.virtqueue.specs.Contracts.{noticesOf, headOf, headWay, noticesWay}
 use Rattle.virtqueue.specs.declared.queue.SplitQueue.{SplitQueue}
 use Rattle.virtqueue.specs.declared.take.AvailableNotices.the-variants as notices

@@ -16,7 +16,7 @@ use Rattle.guest_view.specs.Guest.{Guest, allReach, byteAt, addresses, leafAt, 
 use Rattle.virtqueue.specs.Queue.{ringEntry, usedEntry, usedIdx}
 use Rattle.virtqueue.specs.Chain.{Chain, Entry, out, here, endOf, isWritable, misplaced, reached, chainAt}
 use Rattle.virtqueue.specs.Route.{Routed, follows, routed}
-use Rattle.virtqueue.specs.Step.{Way, halted, quiet, along, Offer, stop, nothing, ready, idx, flags, entry, offers, notifies, chainOf, requestBytes, responsePlaces, usedPlaces, offerChain, offered, steppedBy, Effect}
+use Rattle.virtqueue.specs.Step.{Way, halted, quiet, along, Offer, stop, nothing, ready, idx, flags, entry, offers, notifies, chainOf, requestBytes, responsePlaces, offerChain, offered, steppedBy, Effect}
 use Rattle.virtqueue.specs.declared.chain.Gathered.{Gathered}
 use Rattle.virtqueue.specs.declared.chain.Descriptor.{Descriptor}
 use Rattle.virtqueue.specs.declared.chain.Fetched.{Fetched}

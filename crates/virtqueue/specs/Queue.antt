@@ -1,5 +1,5 @@
 -- The split queue's record: 16, 27, making and reset, and where its areas lie. Assumes nothing: these are definitions.
-use mathlib.Core.Bool.{Bool, true, false, cond, _&&_, _||_}
+use mathlib.Core.Bool.{Bool, cond, _&&_, _||_}
 use Prim.Native.Nat.{ℕ, _+_, _-_, _*_, _%_}
 use lib.Dec.{eqb, leb}
 use Rattle.region_map.specs.Fault.{limit}

@@ -1,5 +1,4 @@
 // A run of steps, with the device changed where it lies.
-ghost use mathlib.Core.Path.{_≡_};
 ghost use Rattle.map_records.specs.Words.{viewOf};
 ghost use Rattle.device_words.specs.Words.{deviceOf};
 ghost use Rattle.virtqueue.specs.Run.{RunDoes, ran};

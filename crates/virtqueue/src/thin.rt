@@ -1,5 +1,4 @@
 // The step over a queue record that lies in the caller's storage.
-ghost use mathlib.Core.Path.{_≡_};
 ghost use Rattle.map_records.specs.Words.{viewOf};
 ghost use Rattle.memory_device.specs.Record.{recordOf};
 ghost use Rattle.virtqueue.specs.Step.{stepped};

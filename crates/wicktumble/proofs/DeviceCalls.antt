@@ -11,7 +11,6 @@ use Rattle.region_map.specs.Reply.{numberOf, passes}
 use Rattle.region_map.specs.Check.{reply}
 use Rattle.region_map.specs.declared.check.MapAnswer.{MapAnswer}
 use Rattle.region_map.specs.declared.check.MapAnswer.the-variants as map
-use Rattle.device_words.specs.Request as request
 use Rattle.device_words.specs.Device.{MemoryDevice}
 use Rattle.device_words.specs.Words.{deviceOf, deviceWords}
 use Rattle.memory_device.specs.Record.{hostReply}

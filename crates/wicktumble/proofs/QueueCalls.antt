@@ -16,7 +16,7 @@ use Rattle.device_words.specs.Words.{isDevice, deviceOf, deviceWords}
 use Rattle.virtqueue.specs.Queue.{sizeOk, areasOk, made, queueReply, givenBy}
 use Rattle.virtqueue.specs.Step.{Answer, stepped}
 use Rattle.virtqueue.specs.Does.{answerOf, laid, DoesIn}
-use Rattle.virtqueue.specs.Run.{End, endOf, ran, RunDoes}
+use Rattle.virtqueue.specs.Run.{endOf, ran, RunDoes}
 use Rattle.virtqueue.specs.declared.queue.SplitQueue.{SplitQueue}
 use Rattle.virtqueue.specs.declared.queue.QueueAnswer.{QueueAnswer}
 use Rattle.virtqueue.specs.declared.queue.QueueAnswer.the-variants as answer

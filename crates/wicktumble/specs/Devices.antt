@@ -1,12 +1,12 @@
 -- The calls over devices. Words of another number than 37 stand for a record that 27 refuses. Assumes nothing: these are definitions.
 use mathlib.Core.Path.{_≡_}
-use mathlib.Core.Bool.{Bool, true, false, cond, _&&_}
+use mathlib.Core.Bool.{cond, _&&_}
 use mathlib.Core.List.{List}
 use Prim.Native.Nat.{ℕ}
 use lib.Dec.{eqb}
 use lib.ListN.{length}
 use Rattle.map_records.specs.Words.{mapOf}
-use Rattle.region_map.specs.Reply.{plain, numberOf}
+use Rattle.region_map.specs.Reply.{numberOf}
 use Rattle.sheet.specs.Sheet.{isMap}
 use Rattle.device_words.specs.Request as request
 use Rattle.device_words.specs.Words.{isDevice, deviceOf}

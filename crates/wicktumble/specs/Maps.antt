@@ -1,6 +1,6 @@
 -- The calls over maps: sheet, check, walk, flat view. Each gives its number, and what it leaves in the lent words. Assumes nothing: these are definitions.
 use mathlib.Core.Path.{_≡_}
-use mathlib.Core.Bool.{Bool, true, false, cond, _&&_}
+use mathlib.Core.Bool.{cond, _&&_}
 use mathlib.Core.List.{List}
 use Prim.Native.Nat.{ℕ}
 use Rattle.map_records.specs.Words.{mapOf}

@@ -1,5 +1,4 @@
 -- `virtqueue::chain::descriptor_of` meets its contract. Assumes nothing.
-use native.Mathlib.Omega.{arith}
 use Rattle.virtqueue.specs.Chain.{descriptorAt}
 use borrow.Author.Needs.{needs}
 use Rattle.virtqueue.proofs.chain.descriptor_of.Statement.{statement}

@@ -10,7 +10,6 @@ use Rattle.guest_view.specs.Contracts.{placeIn}
 use Rattle.virtqueue.specs.Chain as chains
 use Rattle.virtqueue.specs.Chain.{Chain, whole, ended, element, nextBelow, isWritable, fetched, reached, follow, chainAt}
 use Rattle.virtqueue.specs.Contracts.{Got, gotOf, entryBy, stopAt}
-use Rattle.virtqueue.specs.declared.chain.Descriptor.{Descriptor}
 use Rattle.virtqueue.proofs.ChainLaws.{added-late, Going, going-start, going-next, going-whole, going-ended, end-ended, next-below, next-astray, follow-none, follow-out, follow-stopped, follow-last, follow-astray, follow-next}
 use Rattle.virtqueue.proofs.chain.gather.Statement.{statement}
 use Rattle.virtqueue.proofs.chain.gather.Tie as tie

@@ -1,5 +1,4 @@
 -- `virtqueue::in_place::records_ok` meets its contract. Assumes nothing.
-use mathlib.Core.Path.{refl}
 use Rattle.device_words.proofs.DeviceWords.{device-first}
 use Rattle.virtqueue.specs.Step.{recordsOk}
 use Rattle.virtqueue.proofs.DeviceLaws.{records-short}

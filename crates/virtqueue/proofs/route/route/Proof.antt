@@ -2,7 +2,7 @@
 use native.Mathlib.Omega.{arith}
 use borrow.Author.Needs.{needs}
 use mathlib.Core.Path.{_≡_, sym, ap, _∙_}
-use mathlib.Core.Bool.{true, false}
+use mathlib.Core.Bool.{true}
 use Prim.Native.Nat.{ℕ}
 use Rattle.device_words.specs.Device.{deviceOk}
 use Rattle.device_words.specs.Words.{deviceOf}
@@ -10,7 +10,7 @@ use Rattle.device_words.proofs.DeviceWords.{ok-length, ok-device, not-device}
 use Rattle.guest_view.specs.View.{viewOk}
 use Rattle.map_records.specs.Words.{viewOf}
 use Rattle.guest_view.proofs.WordLaws.{view-judged}
-use Rattle.virtqueue.specs.Route.{Routed, routedWith}
+use Rattle.virtqueue.specs.Route.{Routed}
 use Rattle.virtqueue.proofs.RouteAllLaws.{block-big, table-words, view-and-device, device-off, view-off, refused-with, judged-with}
 use Rattle.virtqueue.proofs.route.route.Statement.{statement}
 use Rattle.virtqueue.proofs.route.route.Tie as tie

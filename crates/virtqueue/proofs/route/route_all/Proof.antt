@@ -2,7 +2,7 @@
 use native.Mathlib.Omega.{arith}
 use borrow.Author.Needs.{needs}
 use mathlib.Core.Path.{_≡_, sym, ap, ap₂, _∙_}
-use mathlib.Core.Bool.{Bool, true, false, _&&_}
+use mathlib.Core.Bool.{Bool, true, _&&_}
 use Rattle.region_map.proofs.Bools.{and-fst, and-snd}
 use Rattle.device_words.specs.Device.{deviceOk}
 use Rattle.device_words.specs.Words.{deviceOf}

@@ -1,6 +1,5 @@
 -- `wicktumble::maps::say_walk` meets its contract. Assumes nothing.
 use borrow.Author.Needs.{needs}
-use mathlib.Core.Path.{_∙_}
 use Rattle.wicktumble.proofs.CallLaws.{says}
 use Rattle.wicktumble.proofs.maps.say_walk.Statement.{statement}
 use Rattle.wicktumble.proofs.maps.say_walk.Tie as tie

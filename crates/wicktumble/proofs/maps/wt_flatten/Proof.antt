@@ -1,6 +1,5 @@
 -- `wicktumble::maps::wt_flatten` meets its contract. Assumes nothing.
 use borrow.Author.Needs.{needs}
-use mathlib.Core.Path.{_∙_}
 use mathlib.Core.Bool.{_&&_}
 use Rattle.wicktumble.specs.Maps.{flattenCall}
 use Rattle.region_map.specs.Flatten.{isView}

@@ -1,6 +1,5 @@
 -- `wicktumble::maps::wt_read_sheet` meets its contract. Assumes nothing.
 use borrow.Author.Needs.{needs}
-use mathlib.Core.Path.{_∙_}
 use Rattle.wicktumble.specs.Maps.{readCall}
 use Rattle.sheet.specs.Sheet.{isMap}
 use Rattle.wicktumble.proofs.CallLaws.{taken, refused, result-fits, unmade-as, reply-made}

@@ -1,5 +1,4 @@
 -- `wicktumble::queue_words::queue_of` meets its contract. Assumes nothing.
-use native.Mathlib.Omega.{arith}
 use borrow.Author.Needs.{needs}
 use Rattle.wicktumble.specs.Queues.{queueOf}
 use Rattle.wicktumble.proofs.queue_words.queue_of.Statement.{statement}

@@ -1,7 +1,6 @@
 -- `wicktumble::queues::wt_make_queue` meets its contract. Assumes nothing.
 use mathlib.Core.Path.{refl, ap, _∙_}
 use native.Mathlib.Omega.{arith}
-use borrow.Author.Needs.{needs}
 use borrow.Author.Tests.{eq-eqb, ne-eqb}
 use Rattle.virtqueue.specs.Queue.{Given}
 use Rattle.wicktumble.specs.Queues.{gives, makeCall}

@@ -1,6 +1,5 @@
 -- `wicktumble::queues::wt_reset_queue` meets its contract. Assumes nothing.
 use mathlib.Core.Path.{refl, sym, ap, _∙_}
-use borrow.Author.Needs.{needs}
 use Rattle.virtqueue.specs.Queue.{Given, wasReset}
 use Rattle.wicktumble.specs.Queues.{gives, resetQueueCall}
 use Rattle.wicktumble.proofs.CallLaws.{taken, refused}
