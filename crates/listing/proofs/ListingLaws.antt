@@ -8,7 +8,7 @@ use native.Mathlib.Omega.{arith}
 use lib.Dec.{eqb, ltb}
 use lib.ListN.{length, take, drop, getD}
 use lib.Seq.{take-suc}
-use borrow.Author.Tests.{eq-eqb, ne-eqb, ltb-false}
+use borrow.Author.Tests.{eq-eqb, ltb-false}
 use Rattle.map_records.specs.View.{noRange, rangeOf, entries}
 use Rattle.map_records.specs.Words.{viewOf, viewWords}
 use Rattle.map_records.specs.declared.view.FlatRange.{FlatRange}
@@ -20,7 +20,7 @@ use Rattle.region_map.specs.Check.{judged}
 use Rattle.region_map.specs.Flatten.{flatReply, flatList, viewHolding, refusal, listed, Outcome, flattened, Made, laidInto, flattenedInto}
 use Rattle.region_map.specs.declared.view.FlatAnswer.{FlatAnswer}
 use Rattle.region_map.specs.declared.view.FlatAnswer.the-variants.{Checked, TooMany, Record}
-use Rattle.sheet.proofs.ReadLaws.{map-zero, puts-injective}
+use Rattle.sheet.proofs.ReadLaws.{map-zero, Said, said, puts-injective}
 use Rattle.listing.specs.Text.{refusalText, Puts, Fills}
 use Rattle.listing.specs.Listing.{rangeText, rangesText, viewText}
 use Rattle.listing.proofs.TextLaws.{puts-then, fills-refused, fills-passed}
@@ -57,9 +57,7 @@ view-words-injective u v e =
     (λ i. record { count = count i; ranges = ranges i })
 
 pub record MadeAs (o : Outcome) (n : ℕ) (words : List ℕ) : Type 0 where
-  pub number : n ≡ numberOf (o .reply)
-  pub refused : (n ≡ 0 → ⊥) → passes (o .reply) ≡ false
-  pub passed : n ≡ 0 → passes (o .reply) ≡ true
+  pub said : Said (o .reply) n
   pub view : n ≡ 0 → viewOf words ≡ o .view
   pub few : n ≡ 0 → viewOf words .count ≤ 256
 
@@ -82,23 +80,18 @@ module _ (m : RegionMap) (memory : ℕ) (old words : List ℕ) (a : FlatAnswer) 
   unfolding flattenedInto
   into-words = rw (eq-eqb (length old) 1537 size)
 
-  replied : flatReply a ≡ flattened m memory .reply
-  replied = e ∙ ap (λ (x : Made). x .reply) into-words
-
-  accepts : n ≡ 0 → passes (flattened m memory .reply) ≡ true
-  accepts z = ap passes (sym replied) ∙ sym (flat-zero a) ∙ eq-eqb _ 0 (sym k ∙ z)
+  answered : Said (flattened m memory .reply) n
+  answered = said (flat-zero a) (e ∙ ap (λ (x : Made). x .reply) into-words) k
 
   made : n ≡ 0 → viewOf words ≡ flattened m memory .view
   made z =
       view-words-injective (viewOf words) (flattened m memory .view)
-      (view-back words long ∙ w ∙ ap (λ (x : Made). x .words) into-words ∙ ap (λ (b : Bool). cond b (viewWords (flattened m memory .view)) old) (accepts z))
+      (view-back words long ∙ w ∙ ap (λ (x : Made). x .words) into-words ∙ ap (λ (b : Bool). cond b (viewWords (flattened m memory .view)) old) (answered .passed z))
 
   pub made-as : MadeAs (flattened m memory) n words
   made-as =
       record {
-        number = k ∙ ap numberOf replied;
-        refused = λ h. ap passes (sym replied) ∙ sym (flat-zero a) ∙ ne-eqb _ 0 (λ z. h (k ∙ z));
-        passed = accepts;
+        said = answered;
         view = made;
         few = λ z. omega (arith, ap (λ (v : FlatView). v .count) (made z), few-ranges m memory);
       }
@@ -106,8 +99,8 @@ module _ (m : RegionMap) (memory : ℕ) (old words : List ℕ) (a : FlatAnswer) 
 -- the text of a view that was made
 module _ {o : Outcome} {n : ℕ} {words : List ℕ} (told : MadeAs o n words) {old new : List ℕ} {k : ℕ} where
   pub view-refused : (n ≡ 0 → ⊥) → Fills (refusalText n) old k new → Fills (viewText o) old k new
-  view-refused h f = fills-refused (o .reply) (rangesText (entries (o .view))) n (told .refused h) (told .number) f
+  view-refused h f = fills-refused (told .said) (rangesText (entries (o .view))) h f
 
   pub view-passed : n ≡ 0 → Fills (rangesText (entries (viewOf words))) old k new → Fills (viewText o) old k new
   view-passed z f =
-      fills-passed (o .reply) (rangesText (entries (o .view))) (told .passed z) (subst (λ (v : FlatView). Fills (rangesText (entries v)) old k new) (told .view z) f)
+      fills-passed (told .said) (rangesText (entries (o .view))) z (subst (λ (v : FlatView). Fills (rangesText (entries v)) old k new) (told .view z) f)

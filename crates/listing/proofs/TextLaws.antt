@@ -1,6 +1,6 @@
 -- Laws of numbers as text, and of texts that are put into a buffer. Assumes nothing.
 use mathlib.Core.Path.{_≡_, refl, sym, ap, ap₂, subst, _∙_}
-use mathlib.Core.Bool.{Bool, true, false, cond}
+use mathlib.Core.Bool.{Bool, cond}
 use mathlib.Core.List.{List, [], _∷_, _++_}
 use Prim.Native.Nat.{ℕ, zero, suc, _+_, _-_, _*_, _/_, _^_, _≤_, _<_}
 use native.Mathlib.Nat.{div-lt-iff-lt-mul, le-div-iff-mul-le, pow-zero, pow-suc, one-mul, zero-add, one-le-pow, pow-le-pow-right, mul-le-mul-right}
@@ -12,13 +12,13 @@ use lib.Seq.{sets, sets-eq, length-sets, take-suc, take-at, length-take-le}
 use borrow.Author.Tests.{lt-ltb, le-ltb, le-leb, lt-leb}
 use Rattle.io.specs.Digits.{digits, Fewest}
 use Rattle.map_records.proofs.StoreLaws.{sets-append}
-use Rattle.region_map.specs.Reply.{Reply, passes, numberOf, ifAccepted}
+use Rattle.region_map.specs.Reply.{Reply, ifAccepted}
 use Rattle.region_map.proofs.Accepted.{passed-reply}
 use Rattle.region_map.proofs.Replies.{refused-first}
 use Rattle.map_records.specs.Words.{mapOf}
 use Rattle.map_records.specs.declared.map.RegionMap.{RegionMap}
 use Rattle.sheet.specs.Sheet.{Outcome}
-use Rattle.sheet.proofs.ReadLaws.{ReadAs}
+use Rattle.sheet.proofs.ReadLaws.{Said, ReadAs}
 use Rattle.listing.specs.Text.{places, hexText, decimalText, refusalText, refusedText, Puts, Fills}
 
 -- ---- numbers
@@ -122,16 +122,17 @@ fills-put {t} {blank} {buffer} {old} {new} {r} {k} p h f =
     (subst (λ (x : List ℕ). Fills x old k new) (puts-front p h) f, omega (arith, f .size, length-take r buffer))
 
 -- the text of a call that goes on only where nothing is refused
-pub fills-refused : (r : Reply) (x : List ℕ) (n : ℕ) {old new : List ℕ} {k : ℕ} → passes r ≡ false → n ≡ numberOf r → Fills (refusalText n) old k new → Fills (ifAccepted r refusedText x) old k new
-fills-refused r x n {old} {new} {k} p e f = subst (λ (t : List ℕ). Fills t old k new) (ap refusalText e ∙ refused-first refusedText x r r refl p) f
+module _ {r : Reply} {n : ℕ} (told : Said r n) (x : List ℕ) {old new : List ℕ} {k : ℕ} where
+  pub fills-refused : (n ≡ 0 → ⊥) → Fills (refusalText n) old k new → Fills (ifAccepted r refusedText x) old k new
+  fills-refused h f = subst (λ (t : List ℕ). Fills t old k new) (ap refusalText (told .number) ∙ refused-first refusedText x r r refl (told .refused h)) f
 
-pub fills-passed : (r : Reply) (x : List ℕ) {old new : List ℕ} {k : ℕ} → passes r ≡ true → Fills x old k new → Fills (ifAccepted r refusedText x) old k new
-fills-passed r x {old} {new} {k} p f = subst (λ (q : Reply). Fills (ifAccepted q refusedText x) old k new) (sym (passed-reply r p)) f
+  pub fills-passed : n ≡ 0 → Fills x old k new → Fills (ifAccepted r refusedText x) old k new
+  fills-passed z f = subst (λ (q : Reply). Fills (ifAccepted q refusedText x) old k new) (sym (passed-reply r (told .passed z))) f
 
 -- the same of a sheet that was read: `made` is the text of its map
 module _ {o : Outcome} {n : ℕ} {words : List ℕ} (told : ReadAs o n words) (made : RegionMap → List ℕ) {old new : List ℕ} {k : ℕ} where
   pub sheet-refused : (n ≡ 0 → ⊥) → Fills (refusalText n) old k new → Fills (ifAccepted (o .reply) refusedText (made (o .map))) old k new
-  sheet-refused h f = fills-refused (o .reply) (made (o .map)) n (told .refused h) (told .number) f
+  sheet-refused h f = fills-refused (told .said) (made (o .map)) h f
 
   pub sheet-passed : n ≡ 0 → Fills (made (mapOf words)) old k new → Fills (ifAccepted (o .reply) refusedText (made (o .map))) old k new
-  sheet-passed z f = fills-passed (o .reply) (made (o .map)) (told .passed z) (subst (λ (m : RegionMap). Fills (made m) old k new) (told .map z) f)
+  sheet-passed z f = fills-passed (told .said) (made (o .map)) z (subst (λ (m : RegionMap). Fills (made m) old k new) (told .map z) f)

@@ -46,6 +46,20 @@ sheet-zero (Tail p) = refl
 sheet-zero Record = refl
 sheet-zero (Checked a) = map-zero a
 
+-- the number n that was answered for the reply r
+pub record Said (r : Reply) (n : ℕ) : Type 0 where
+  pub number : n ≡ numberOf r
+  pub refused : (n ≡ 0 → ⊥) → passes r ≡ false
+  pub passed : n ≡ 0 → passes r ≡ true
+
+pub said : {r o : Reply} {n : ℕ} → eqb (numberOf r) 0 ≡ passes r → r ≡ o → n ≡ numberOf r → Said o n
+said zero e k =
+    record {
+      number = k ∙ ap numberOf e;
+      refused = λ h. ap passes (sym e) ∙ sym zero ∙ ne-eqb _ 0 (λ z. h (k ∙ z));
+      passed = λ z. ap passes (sym e) ∙ sym zero ∙ eq-eqb _ 0 (sym k ∙ z);
+    }
+
 -- ---- words fix the records that they stand for
 module _ {A : Type 0} {read : List ℕ → ℕ → A} {reads : List ℕ → ℕ → ℕ → List A} {put : A → List ℕ} {puts : List A → List ℕ} {k : ℕ} (s : Grouped read reads put puts k) (some : 0 < k) where
   put-injective : (x y : A) → put x ≡ put y → x ≡ y
@@ -115,9 +129,7 @@ module _ (s : List ℕ) (memory : ℕ) where
 
 -- ---- a sheet that was read into lent words, with the number that was answered
 pub record ReadAs (o : Outcome) (n : ℕ) (words : List ℕ) : Type 0 where
-  pub number : n ≡ numberOf (o .reply)
-  pub refused : (n ≡ 0 → ⊥) → passes (o .reply) ≡ false
-  pub passed : n ≡ 0 → passes (o .reply) ≡ true
+  pub said : Said (o .reply) n
   pub map : n ≡ 0 → mapOf words ≡ o .map
 
 module _ (s : List ℕ) (memory : ℕ) (old words : List ℕ) (a : SheetAnswer) (n : ℕ) (size : length old ≡ 289) (long : length words ≡ 289)
@@ -126,18 +138,14 @@ module _ (s : List ℕ) (memory : ℕ) (old words : List ℕ) (a : SheetAnswer) 
   unfolding readInto
   into-words = rw (eq-eqb (length old) 289 size)
 
-  replied : sheetReply a ≡ readSheet s memory .reply
-  replied = e ∙ ap (λ (x : Made). x .reply) into-words
-
-  accepts : n ≡ 0 → passes (readSheet s memory .reply) ≡ true
-  accepts z = ap passes (sym replied) ∙ sym (sheet-zero a) ∙ eq-eqb _ 0 (sym k ∙ z)
+  answered : Said (readSheet s memory .reply) n
+  answered = said (sheet-zero a) (e ∙ ap (λ (x : Made). x .reply) into-words) k
 
   pub read-as : ReadAs (readSheet s memory) n words
   read-as =
       record {
-        number = k ∙ ap numberOf replied;
-        refused = λ h. ap passes (sym replied) ∙ sym (sheet-zero a) ∙ ne-eqb _ 0 (λ z. h (k ∙ z));
-        passed = accepts;
+        said = answered;
         map = λ z. map-words-injective (mapOf words) (readSheet s memory .map)
-            (map-back words long ∙ w ∙ ap (λ (x : Made). x .words) into-words ∙ ap (λ (b : Bool). cond b (mapWords (readSheet s memory .map)) old) (accepts z));
+            (map-back words long ∙ w ∙ ap (λ (x : Made). x .words) into-words
+            ∙ ap (λ (b : Bool). cond b (mapWords (readSheet s memory .map)) old) (answered .passed z));
       }

@@ -51,7 +51,7 @@ put-rows-requires : tie.Need-put-rows-requires
 put-rows-requires c κs =
     let m = told (c .before .before .before) in
     let z = c .before .before .if1 .left in
-    (subst (λ (x : RegionMap). Accepted x (c .before .before .before .before .before .before .before .before .before .args .memory-length)) (sym (m .map z)) (sheet-accepted _ _ (m .passed z)), length-replicate {A = ℕ} 2765 0)
+    (subst (λ (x : RegionMap). Accepted x (c .before .before .before .before .before .before .before .before .before .args .memory-length)) (sym (m .map z)) (sheet-accepted _ _ (m .said .passed z)), length-replicate {A = ℕ} 2765 0)
 
 array-share-prefix-text : tie.Need-array-share-prefix-text
 array-share-prefix-text c = search needs
