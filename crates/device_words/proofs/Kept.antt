@@ -2,14 +2,14 @@
 use mathlib.Core.Path.{_≡_, refl, sym, ap, _∙_}
 use mathlib.Core.Bool.{Bool, true, false, cond}
 use mathlib.Core.List.{List}
-use Prim.Native.Nat.{ℕ, suc, _+_, _-_, _*_, _/_, _≤_, _<_}
+use Prim.Native.Nat.{ℕ, suc, _+_, _-_, _/_, _≤_, _<_}
 use native.Mathlib.Omega.{arith}
 use native.Mathlib.Nat.{div-mul-le-self, le-div-iff-mul-le, add-mul, mul-le-mul-right, zero-add}
 use lib.Dec.{eqb, leb, ltb}
 use borrow.Author.Tests.{leb-true, ltb-true, eqb-true, eqb-false}
 use Rattle.region_map.proofs.Bools.{never, and-fst, and-snd}
 use Rattle.device_words.specs.Table.{bitAt, within, tableOf}
-use Rattle.device_words.specs.Device.{MemoryDevice, pinnedIn, isPinned, anyPinned, noBlocks, withPlugged, setupOk, setUpOk, tablesOk, deviceOk}
+use Rattle.device_words.specs.Device.{MemoryDevice, pinnedIn, isPinned, anyPinned, noBlocks, withPlugged, setUpOk, tablesOk, deviceOk}
 use Rattle.device_words.specs.Contracts.{Valid}
 use Rattle.device_words.specs.Request.{blockOf, inRange, heldOf, answered, isAck, withRun, acknowledged, changedBy}
 use Rattle.device_words.specs.declared.request.Request.{Request}

@@ -1,11 +1,11 @@
 -- Laws of words by their bits and of tables by their blocks. Assumes nothing.
 use mathlib.Core.Path.{_≡_, refl, ap, _∙_, sym, subst}
-use Rattle.map_records.proofs.Order.{side, eq-or-not}
+use Rattle.map_records.proofs.Order.{side}
 use mathlib.Core.Bool.{Bool, true, false, cond, not, _&&_, _||_, or-true}
-use mathlib.Core.Logic.{_⊎_, inl, inr, ⊎-elim}
+use mathlib.Core.Logic.{⊎-elim}
 use mathlib.Core.List.{List}
 use Prim.Native.Nat.{ℕ, suc, zero, _+_, _-_, _*_, _/_, _%_, _^_, _≤_, _<_}
-use native.Mathlib.Nat.{eq-zero-or-pos, eq-or-lt-of-le, zero-div, mod-eq-of-lt, mod-lt, mod-one, one-mul, zero-mul, pow-suc, add-mul-mod-self-right, div-eq-of-lt, add-zero, zero-add}
+use native.Mathlib.Nat.{eq-or-lt-of-le, zero-div, mod-eq-of-lt, mod-lt, mod-one, one-mul, zero-mul, pow-suc, add-mul-mod-self-right, div-eq-of-lt, add-zero, zero-add}
 use native.Mathlib.Numerals.{add-one}
 use native.Mathlib.Omega.{arith}
 use lib.Dec.{ltb, eqb, lit<}

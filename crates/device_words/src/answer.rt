@@ -1,5 +1,4 @@
-// What a request is answered on a device whose sizes are in SETUP's bounds: the range rule, the
-// checks in their order, and the change of the table.
+// What a request is answered: the range rule, the checks in their order, and the change of the table.
 ghost use mathlib.Core.Path.{_≡_};
 ghost use mathlib.Core.Bool.{true};
 ghost use Prim.Native.Nat.{_<_};

@@ -1,7 +1,6 @@
 // The plugged size.
 ghost use mathlib.Core.Path.{_≡_};
 ghost use Prim.Native.Nat.{_≤_};
-ghost use lib.ListN.{length};
 ghost use Rattle.device_words.specs.Device.{pluggedSize};
 ghost use Rattle.device_words.specs.Words.{deviceAt};
 ghost use Rattle.device_words.specs.Contracts.{Fit};

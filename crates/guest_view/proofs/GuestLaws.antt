@@ -1,5 +1,4 @@
 -- Laws of what a list of ranges gives an address: the range that holds it, the bytes that lie in the memory, reach. Assumes nothing.
-use mathlib.Core.Logic.{_⊎_, inl, inr, ⊎-elim}
 use mathlib.Core.Path.{_≡_, refl, sym, ap, _∙_}
 use mathlib.Core.Bool.{Bool, true, false, cond, _&&_, _||_}
 use mathlib.Core.List.{List, [], _∷_}
@@ -7,18 +6,18 @@ use Prim.Native.Nat.{ℕ, zero, suc, _+_, _-_, _^_, _≤_, _<_}
 use native.Mathlib.Nat.{add-zero}
 use native.Mathlib.Omega.{arith}
 use lib.Dec.{eqb, leb}
-use lib.ListN.{length, take, getD, length-take}
+use lib.ListN.{length, getD, length-take}
 use lib.Seq.{getD-take}
-use borrow.Author.Tests.{leb-true, eqb-true}
+use borrow.Author.Tests.{leb-true}
 use Rattle.map_records.specs.Map.{ram, managed}
 use Rattle.region_map.specs.FlatList.{inside}
 use Rattle.map_records.specs.View.{entries, noRange}
-use Rattle.map_records.specs.View.{rangeOf, lastOffset}
+use Rattle.map_records.specs.View.{rangeOf}
 use Rattle.map_records.specs.declared.view.FlatRange.{FlatRange}
 use Rattle.map_records.specs.declared.view.FlatView.{FlatView}
 use Rattle.region_map.proofs.Bools.{never, and-fst, and-snd}
 use Rattle.device_words.specs.Device.{pluggedIn}
-use Rattle.guest_view.specs.Guest.{Leaf, nowhere, leaf, leafIn, leafAt, reachKind, reachLeaf, placeLeaf, viewGuest, allReach}
+use Rattle.guest_view.specs.Guest.{Leaf, nowhere, leaf, leafIn, leafAt, reachLeaf, placeLeaf, viewGuest, allReach}
 use Rattle.guest_view.specs.Contracts.{memoryKind, memoryLeaf, Ordered, Backed, InMemory, placeIn}
 
 -- what is reachable lies in the memory

@@ -4,7 +4,7 @@ use mathlib.Core.List.{List, map}
 use Prim.Native.Nat.{ℕ, zero, suc, _+_, _-_, _^_, _≤_, _<_}
 use native.Mathlib.Nat.{add-zero}
 use native.Mathlib.Omega.{arith}
-use lib.ListN.{length, getD}
+use lib.ListN.{getD}
 use Rattle.map_records.specs.declared.view.FlatView.{FlatView}
 use Rattle.device_words.proofs.ByteLaws.{numbers-agree}
 use Rattle.guest_view.specs.Guest.{addresses, byteAt, numberAt}

@@ -1,5 +1,4 @@
 -- Where the guest's bytes lie: what an address answers, reach and memory place. Everything that a queue step asks of a map it asks through `Guest`, so that the step over the flat list and the step over the tree are one definition. Assumes nothing: these are definitions.
-use mathlib.Core.Path.{_≡_}
 use mathlib.Core.Bool.{Bool, true, false, cond, _&&_, _||_}
 use mathlib.Core.List.{List, [], _∷_}
 use Prim.Native.Nat.{ℕ, zero, suc, _+_}

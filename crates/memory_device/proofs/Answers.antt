@@ -1,7 +1,7 @@
 -- The promises fix the answers: two answers with one number are equal. Assumes nothing.
 use mathlib.Core.Path.{_≡_, refl, sym, ap, _∙_}
 use mathlib.Core.Bool.{cond}
-use Prim.Native.Nat.{ℕ}
+use Prim.Native.Nat.{ℕ, suc}
 use lib.Dec.{eqb}
 use Rattle.region_map.specs.Reply.{Reply, accepted, nodes, place, plain}
 use Rattle.region_map.specs.Check.{reply}
@@ -36,20 +36,21 @@ setUpOf (nodes k i j) = Checked (answerOf (nodes k i j))
 setUpOf (place k p) = Values
 setUpOf (plain k) = Values
 
-checked-back : (a : MapAnswer) → setUpOf (reply a) ≡ Checked (answerOf (reply a))
-checked-back map.Accepted = refl
-checked-back map.Count = refl
-checked-back (map.Kind n) = refl
-checked-back (map.Field n) = refl
-checked-back (map.Link n) = refl
-checked-back (map.Memory i j) = refl
-checked-back (map.Managed i j) = refl
-checked-back (map.Port i j) = refl
-checked-back (map.Overlap i j) = refl
+-- what holds of acceptance and of every number above 0 with two nodes holds of each answer of the map's check
+pub by-reply : (P : Reply → Type 0) → P accepted → ((k i j : ℕ) → P (nodes (suc k) i j)) → (a : MapAnswer) → P (reply a)
+by-reply P x y map.Accepted = x
+by-reply P x y map.Count = y 2 0 0
+by-reply P x y (map.Kind n) = y 3 n n
+by-reply P x y (map.Field n) = y 5 n n
+by-reply P x y (map.Link n) = y 6 n n
+by-reply P x y (map.Memory i j) = y 7 i j
+by-reply P x y (map.Managed i j) = y 8 i j
+by-reply P x y (map.Port i j) = y 9 i j
+by-reply P x y (map.Overlap i j) = y 10 i j
 
 set-up-back : (a : SetUpAnswer) → setUpOf (setUpReply a) ≡ a
 set-up-back Values = refl
-set-up-back (Checked a) = checked-back a ∙ ap Checked (reply-back a)
+set-up-back (Checked a) = by-reply (λ r. setUpOf r ≡ Checked (answerOf r)) refl (λ k i j. refl) a ∙ ap Checked (reply-back a)
 
 pub set-up-reply-injective : (a b : SetUpAnswer) → setUpReply a ≡ setUpReply b → a ≡ b
 set-up-reply-injective a b e = sym (set-up-back a) ∙ ap setUpOf e ∙ set-up-back b

@@ -1,14 +1,14 @@
 -- Laws of the calls on a device's words, and of those on a record by value. Assumes nothing.
 use mathlib.Core.Path.{_≡_, refl, sym, ap, _∙_}
 use mathlib.Core.Bool.{Bool, true, false, cond, _&&_, _||_, not}
-use mathlib.Core.List.{List, [], _∷_, _++_}
+use mathlib.Core.List.{List, [], _∷_}
 use mathlib.Core.Logic.{_⊎_, inl, inr, ⊎-elim}
-use Prim.Native.Nat.{ℕ, _<_, max}
+use Prim.Native.Nat.{ℕ, max}
 use native.Mathlib.Omega.{arith}
 use lib.Dec.{eqb}
-use lib.ListN.{length, take, drop, set}
+use lib.ListN.{length, set}
 use borrow.Author.Tests.{eq-eqb, ne-eqb, eqb-true, eqb-false}
-use Rattle.region_map.specs.Reply.{Reply, accepted, plain, passes}
+use Rattle.region_map.specs.Reply.{Reply, plain, passes}
 use Rattle.region_map.proofs.Bools.{and-off}
 use Rattle.device_words.specs.Table.{bitAt, within}
 use Rattle.device_words.specs.Device.{MemoryDevice, isPinned, noBlocks, withPlugged, withPins, withPin, fresh, deviceOk}

@@ -1,5 +1,5 @@
 -- Setting the device up from a given map: 3, 4, 6 to 11, then 13. Assumes nothing: these are definitions.
-use mathlib.Core.Bool.{Bool, true, false, cond}
+use mathlib.Core.Bool.{cond}
 use Prim.Native.Nat.{ℕ, zero, suc}
 use lib.Dec.{eqb}
 use Rattle.map_records.specs.Map.{managed, region}
@@ -47,7 +47,7 @@ valued v region =
 
 -- the map is judged first
 unfoldable pub setUp : RegionMap → ℕ → DeviceValues → Outcome
-setUp m length v = ifAccepted (judged m length) refusal (valued v (regionSize m))
+setUp m memory v = ifAccepted (judged m memory) refusal (valued v (regionSize m))
 
 -- document 01's number for each answer
 abbrev pub setUpReply : SetUpAnswer → Reply

@@ -7,7 +7,8 @@ use lib.ListN.{length}
 use borrow.Author.Tests.{eqb-true}
 use Rattle.region_map.proofs.Bools.{and-snd}
 use Rattle.region_map.specs.Reply.{Reply}
-use Rattle.wicktumble.specs.Result.{Told, Tells, told, tells, untold, toldBy, Says, SaysReply, isResult}
+use Rattle.wicktumble.specs.Result.{Told, Tells, told, tells, untold, isResult}
+use Rattle.wicktumble.specs.Contracts.{toldBy, Says, SaysReply}
 use Rattle.wicktumble.specs.Maps.{Made, Makes, makes, unmade}
 use Rattle.wicktumble.specs.declared.result.Said.{Said}
 

@@ -3,40 +3,28 @@ use mathlib.Core.Path.{_≡_, refl, sym, ap, _∙_}
 use mathlib.Core.Bool.{true, false}
 use mathlib.Core.List.{List}
 use Prim.{⊥}
-use Prim.Native.Nat.{ℕ}
+use Prim.Native.Nat.{ℕ, suc}
+use native.Mathlib.Omega.{arith}
 use lib.Dec.{eqb}
 use lib.ListN.{length}
 use borrow.Author.Tests.{eq-eqb, ne-eqb}
 use Rattle.region_map.specs.Reply.{numberOf, passes}
-use Rattle.region_map.specs.Check.{reply}
-use Rattle.region_map.specs.declared.check.MapAnswer.{MapAnswer}
-use Rattle.region_map.specs.declared.check.MapAnswer.the-variants as map
 use Rattle.device_words.specs.Device.{MemoryDevice}
 use Rattle.device_words.specs.Words.{deviceOf, deviceWords}
-use Rattle.memory_device.specs.Record.{hostReply}
+use Rattle.memory_device.specs.Record.{Outcome, hostReply}
 use Rattle.memory_device.specs.SetUp.{setUpReply}
 use Rattle.memory_device.specs.Request.{carriedInto}
-use Rattle.memory_device.specs.Lent.{leaves}
+use Rattle.memory_device.specs.Lent.{leaves, Left, Carries}
 use Rattle.memory_device.specs.declared.device.HostAnswer.{HostAnswer}
 use Rattle.memory_device.specs.declared.setup.SetUpAnswer.{SetUpAnswer}
 use Rattle.memory_device.specs.declared.setup.SetUpAnswer.the-variants.{Checked, Values}
-use Rattle.wicktumble.specs.Devices.{Requested, Answers, answers, requestCall}
+use Rattle.memory_device.proofs.Answers.{by-reply}
+use Rattle.wicktumble.specs.Devices.{Changes, changes, Requested, Answers, answers, requestCall}
 use Rattle.wicktumble.proofs.CallLaws.{taken, refused}
 
 -- ---- a number is 0 where nothing is refused, and only there
-map-zero : (a : MapAnswer) → eqb (numberOf (reply a)) 0 ≡ passes (reply a)
-map-zero map.Accepted = refl
-map-zero map.Count = refl
-map-zero (map.Kind n) = refl
-map-zero (map.Field n) = refl
-map-zero (map.Link n) = refl
-map-zero (map.Memory i j) = refl
-map-zero (map.Managed i j) = refl
-map-zero (map.Port i j) = refl
-map-zero (map.Overlap i j) = refl
-
 set-up-zero : (a : SetUpAnswer) → eqb (numberOf (setUpReply a)) 0 ≡ passes (setUpReply a)
-set-up-zero (Checked a) = map-zero a
+set-up-zero (Checked a) = by-reply (λ r. eqb (numberOf r) 0 ≡ passes r) refl (λ k i j. ne-eqb (suc k) 0 (λ (e : suc k ≡ 0). omega arith)) a
 set-up-zero Values = refl
 
 -- ---- a set-up: the words of the fresh device are put, or none
@@ -51,14 +39,17 @@ module _ (a : SetUpAnswer) (d : MemoryDevice) (w : List ℕ) {n : ℕ} (e : n �
       let p : passes (setUpReply a) ≡ false = sym (set-up-zero a) ∙ ne-eqb _ 0 (λ h. z (e ∙ h)) in
       rw p
 
+-- ---- a host call
+pub changed-as : {o : Outcome} {w w' : List ℕ} {a : HostAnswer} {n : ℕ} → Left o w a w' → n ≡ numberOf (hostReply a) → Changes (changes o w) n w'
+changed-as l k = (k ∙ ap numberOf (l .reply), l .words)
+
 -- ---- a request
 answered-as : {c c' : Requested} {n : ℕ} {w x : List ℕ} → Answers c n w x → c ≡ c' → Answers c' n w x
 answered-as (n, w, x) e = (n ∙ ap (λ (y : Requested). y .number) e, w ∙ ap (λ (y : Requested). y .device) e, x ∙ ap (λ (y : Requested). y .response) e)
 
 module _ (w bytes x : List ℕ) where
   pub request-done : (a : HostAnswer) {s w' x' : List ℕ} {n : ℕ} → length bytes ≡ 24 → s ≡ bytes
-      → (hostReply a ≡ carriedInto (deviceOf w) s x .reply) × (x' ≡ carriedInto (deviceOf w) s x .response)
-      × (w' ≡ leaves (carriedInto (deviceOf w) s x .reply) (carriedInto (deviceOf w) s x .device) w)
+      → Carries (carriedInto (deviceOf w) s x) w a x' w'
       → n ≡ numberOf (hostReply a) → Answers (requestCall w bytes x) n w' x'
   unfolding requestCall
   request-done a {s = s} l e (r, y, d) k =

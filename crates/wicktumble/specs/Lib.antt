@@ -3,3 +3,4 @@ pub mod Maps
 pub mod Devices
 pub mod Queues
 pub mod Routes
+pub mod Contracts

@@ -8,7 +8,6 @@ use Rattle.region_map.specs.Reply.{Reply}
 use Rattle.region_map.specs.Check.{judged}
 use Rattle.region_map.specs.Resolve.{Led, refused, leads, resolved}
 use Rattle.region_map.specs.Flatten.{isView, flattenedInto}
-use Rattle.region_map.specs.declared.resolve.Resolved.{Resolved}
 use Rattle.region_map.specs.declared.resolve.Resolved.the-variants.{Nothing, At}
 use Rattle.sheet.specs.Sheet.{isMap, readInto}
 use Rattle.wicktumble.specs.Result.{Told, Tells, told, tells, untold, isResult}

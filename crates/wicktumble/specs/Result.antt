@@ -6,7 +6,6 @@ use Prim.Native.Nat.{ℕ}
 use lib.Dec.{eqb}
 use lib.ListN.{length}
 use Rattle.region_map.specs.Reply.{Reply, accepted, nodes, place, plain, numberOf}
-use Rattle.wicktumble.specs.declared.result.Said.{Said}
 
 pub record Told : Type 0 where
   pub number : ℕ
@@ -38,19 +37,6 @@ tells r = told (numberOf r) (firstOf r) (secondOf r) 0
 -- 27 for a wrong length: nothing is written
 abbrev pub untold : List ℕ → Told
 untold result = record { number = 27; result = result }
-
--- what the code holds before it is laid into the result
-abbrev pub toldBy : Said → Told
-toldBy s = told (s .number) (s .first) (s .second) (s .third)
-
-pub record Says (s : Said) (n a b c : ℕ) : Type 0 where
-  pub number : s .number ≡ n
-  pub first : s .first ≡ a
-  pub second : s .second ≡ b
-  pub third : s .third ≡ c
-
-abbrev pub SaysReply : Said → Reply → Type 0
-SaysReply s r = Says s (numberOf r) (firstOf r) (secondOf r) 0
 
 -- a length that is as the header says
 abbrev pub isResult : List ℕ → Bool

@@ -5,14 +5,16 @@ ghost use Rattle.memory_device.specs.Host.{byteOf};
 ghost use Rattle.memory_device.specs.Lent.{leaves};
 ghost use Rattle.memory_device.specs.Record.{recordOf};
 ghost use Rattle.memory_device.specs.SetUp.{setUpReply};
-ghost use Rattle.wicktumble.specs.Result.{Tells, toldBy, SaysReply};
+ghost use Rattle.wicktumble.specs.Result.{Tells};
+ghost use Rattle.wicktumble.specs.Contracts.{toldBy, SaysReply};
 ghost use Rattle.wicktumble.specs.Maps.{Makes};
-ghost use Rattle.wicktumble.specs.Devices.{valuesOf, setUpCall, Changes, resizeCall, pinCall, unpinCall, resetCall, configurationCall};
-ghost use Rattle.wicktumble.specs.Devices.{Answers, requestCall, inBlock, blockCall};
+ghost use Rattle.wicktumble.specs.Devices.{valuesOf, setUpCall, Changes, resizeCall, pinCall, unpinCall, resetCall};
+ghost use Rattle.wicktumble.specs.Devices.{configurationCall, Answers, requestCall, inBlock, blockCall};
 use crate::result::Said;
 use crate::result::say;
 use crate::result::say_map;
 use crate::result::tell;
+use device_words::bytes::copy_bytes;
 use map_records::map::GuestAddress;
 use map_records::map::RegionOffset;
 use map_records::words::copy_words;
@@ -58,8 +60,9 @@ pub extern "C" fn wt_set_up(
     device: &mut [u64],
     result: &mut [u64],
 ) -> u64
-    ensures { λ r. ⌜ Makes (setUpCall (now (map .entry)) «memory_length» (valuesOf «block_size» addr «usable_size» «requested_size»)
-        (now (device .entry)) (now (result .entry))) r (now (device .exit)) (now (result .exit)) ⌝ }
+    ensures { λ r. ⌜ Makes (setUpCall (now (map .entry)) «memory_length»
+        (valuesOf «block_size» addr «usable_size» «requested_size») (now (device .entry)) (now (result .entry)))
+        r (now (device .exit)) (now (result .exit)) ⌝ }
 {
     if (map.len() == 289) & ((device.len() == 37) & (result.len() == 3)) {
         let values = DeviceValues {
@@ -117,11 +120,7 @@ fn request_of(bytes: &[u8]) -> [u8; 24]
     ensures { λ r. ⌜ r ≡ now (bytes .entry) ⌝ }
 {
     let mut out = [0u8; 24];
-    let mut i: usize = 0;
-    while i < 24 {
-        out[i] = bytes[i];
-        i += 1;
-    }
+    copy_bytes(&mut out, bytes);
     out
 }
 

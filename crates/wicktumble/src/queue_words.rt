@@ -5,14 +5,32 @@ ghost use Rattle.wicktumble.specs.Queues.{queueFits, QueueWidths, queueO
 use map_records::map::GuestAddress;
 use virtqueue::queue::SplitQueue;
 
+// Where each field lies.
+const SIZE: usize = 0;
+
+const DESCRIPTORS: usize = 1;
+
+const AVAILABLE: usize = 2;
+
+const USED: usize = 3;
+
+const NEXT_AVAILABLE: usize = 4;
+
+const NEXT_USED: usize = 5;
+
+const STOP: usize = 6;
+
+const WORDS: usize = 7;
+
 // Are they seven, and none wider than its field?
 pub fn queue_fits(words: &[u64]) -> bool
     ensures { λ r. ⌜ r ≡ queueFits (now (words .entry)) ⌝ }
 {
-    if words.len() != 7 {
+    if words.len() != WORDS {
         return false;
     }
-    (words[0] <= 65535) & ((words[4] <= 65535) & ((words[5] <= 65535) & (words[6] <= 255)))
+    (words[SIZE] <= 65535)
+        & ((words[NEXT_AVAILABLE] <= 65535) & ((words[NEXT_USED] <= 65535) & (words[STOP] <= 255)))
 }
 
 pub fn queue_of(words: &[u64]) -> SplitQueue
@@ -20,13 +38,13 @@ pub fn queue_of(words: &[u64]) -> SplitQueue
     ensures { λ r. ⌜ r ≡ queueOf (now (words .entry)) ⌝ }
 {
     SplitQueue {
-        size: words[0] as u16,
-        descriptors: GuestAddress(words[1]),
-        available: GuestAddress(words[2]),
-        used: GuestAddress(words[3]),
-        next_available: words[4] as u16,
-        next_used: words[5] as u16,
-        stop: words[6] as u8,
+        size: words[SIZE] as u16,
+        descriptors: GuestAddress(words[DESCRIPTORS]),
+        available: GuestAddress(words[AVAILABLE]),
+        used: GuestAddress(words[USED]),
+        next_available: words[NEXT_AVAILABLE] as u16,
+        next_used: words[NEXT_USED] as u16,
+        stop: words[STOP] as u8,
     }
 }
 
@@ -34,11 +52,11 @@ pub fn put_queue(words: &mut [u64], queue: SplitQueue)
     requires { ⌜ length (now words) ≡ 7 ⌝ }
     ensures { λ _. ⌜ now (words .exit) ≡ queueWords queue ⌝ }
 {
-    words[0] = queue.size as u64;
-    words[1] = queue.descriptors.0;
-    words[2] = queue.available.0;
-    words[3] = queue.used.0;
-    words[4] = queue.next_available as u64;
-    words[5] = queue.next_used as u64;
-    words[6] = queue.stop as u64;
+    words[SIZE] = queue.size as u64;
+    words[DESCRIPTORS] = queue.descriptors.0;
+    words[AVAILABLE] = queue.available.0;
+    words[USED] = queue.used.0;
+    words[NEXT_AVAILABLE] = queue.next_available as u64;
+    words[NEXT_USED] = queue.next_used as u64;
+    words[STOP] = queue.stop as u64;
 }

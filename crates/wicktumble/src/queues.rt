@@ -1,7 +1,7 @@
 // The split queue: making and reset, one step, a run of steps.
 ghost use mathlib.Core.Path.{_≡_};
 ghost use lib.ListN.{length};
-ghost use Rattle.wicktumble.specs.Result.{toldBy};
+ghost use Rattle.wicktumble.specs.Contracts.{toldBy};
 ghost use Rattle.wicktumble.specs.Devices.{Changes};
 ghost use Rattle.wicktumble.specs.Queues.{gives, makeCall, resetQueueCall, recordsFit, flag};
 ghost use Rattle.wicktumble.specs.Queues.{Leaves, stepTold, stepCall, runTold, runCall};

@@ -2,7 +2,8 @@
 ghost use mathlib.Core.Path.{_≡_};
 ghost use lib.ListN.{length};
 ghost use Rattle.region_map.specs.Check.{reply};
-ghost use Rattle.wicktumble.specs.Result.{Tells, toldBy, Says, SaysReply};
+ghost use Rattle.wicktumble.specs.Result.{Tells};
+ghost use Rattle.wicktumble.specs.Contracts.{toldBy, Says, SaysReply};
 use region_map::check;
 use region_map::check::MapAnswer;
 

@@ -1,6 +1,7 @@
 // Routing of accesses, and what a view gives an address.
 ghost use mathlib.Core.Path.{_≡_};
-ghost use Rattle.wicktumble.specs.Result.{Tells, toldBy};
+ghost use Rattle.wicktumble.specs.Result.{Tells};
+ghost use Rattle.wicktumble.specs.Contracts.{toldBy};
 ghost use Rattle.virtqueue.specs.Look.{lookedBy};
 ghost use Rattle.virtqueue.specs.Route.{routedBy, RoutesAll};
 ghost use Rattle.wicktumble.specs.Maps.{ledTo};

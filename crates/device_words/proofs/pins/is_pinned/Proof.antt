@@ -1,6 +1,5 @@
 -- `device_words::pins::is_pinned` meets its contract. Assumes nothing.
 use mathlib.Core.Path.{sym, _∙_}
-use native.Mathlib.Omega.{arith}
 use Rattle.device_words.specs.Device.{isPinned}
 use Rattle.device_words.specs.Words.{deviceAt}
 use Rattle.region_map.proofs.Bools.{never}

@@ -5,7 +5,7 @@ use Rattle.device_words.specs.Device.{powerBelow}
 use lib.Pow.{pow-mono, pow-add}
 use Prim.Native.Nat.{ℕ, _+_, _-_, _*_, _^_, _≤_}
 use native.Mathlib.Omega.{arith}
-use mathlib.Core.Bool.{true, false}
+use mathlib.Core.Bool.{false}
 use mathlib.Core.Path.{_≡_, refl, sym, ap, _∙_}
 use borrow.Author.Needs.{needs}
 use Rattle.device_words.proofs.rules.block_ok.Statement.{statement}

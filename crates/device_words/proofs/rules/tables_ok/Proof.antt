@@ -1,6 +1,4 @@
 -- `device_words::rules::tables_ok` meets its contract. Assumes nothing.
-use mathlib.Core.Path.{ap₂, _∙_}
-use mathlib.Core.Bool.{_&&_}
 use native.Mathlib.Omega.{arith}
 use Rattle.device_words.specs.Device.{isPinned, tablesOk}
 use Rattle.device_words.specs.Table.{bitAt}

@@ -1,5 +1,4 @@
 -- `guest_view::memory::find_places` meets its contract. Assumes nothing.
-use native.Mathlib.Omega.{arith}
 use borrow.Author.Needs.{needs}
 use Prim.Native.Nat.{_^_}
 use mathlib.Core.Path.{_∙_}

@@ -3,7 +3,6 @@ use native.Mathlib.Omega.{arith}
 use Rattle.map_records.specs.Words.{viewOf}
 use Rattle.guest_view.proofs.ReadLaws.{memory-found, spot-in, read-low, read-high, read-offset, read-room, read-runs}
 use Prim.Native.Nat.{_<_}
-use mathlib.Core.Path.{_∙_}
 use Rattle.guest_view.proofs.memory.stretch_at.Statement.{statement}
 use Rattle.guest_view.proofs.memory.stretch_at.Tie as tie
 

@@ -1,7 +1,7 @@
 -- `guest_view::memory::write_bytes` meets its contract. Assumes nothing.
 use native.Mathlib.Omega.{arith}
 use mathlib.Core.Path.{_≡_, refl, sym, _∙_}
-use Prim.Native.Nat.{_-_, _≤_, _<_}
+use Prim.Native.Nat.{_-_, _<_}
 use lib.ListN.{length, drop, length-set}
 use Rattle.guest_view.specs.Guest.{written}
 use Rattle.guest_view.proofs.MemoryLaws.{write-turn, write-ends}

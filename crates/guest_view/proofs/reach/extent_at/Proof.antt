@@ -1,6 +1,5 @@
 -- `guest_view::reach::extent_at` meets its contract. Assumes nothing.
 use native.Mathlib.Omega.{arith}
-use borrow.Author.Needs.{needs}
 use Prim.Native.Nat.{_<_}
 use Rattle.device_words.specs.Device.{pluggedIn}
 use Rattle.map_records.specs.Words.{viewOf}

@@ -2,7 +2,6 @@
 use native.Mathlib.Omega.{arith}
 use borrow.Author.Needs.{needs}
 use mathlib.Core.Path.{sym, ap, _∙_}
-use lib.ListN.{length}
 use Rattle.device_words.specs.Table.{bitAt}
 use Rattle.device_words.proofs.TableLaws.{past-bit}
 use Rattle.guest_view.proofs.reach.is_plugged.Statement.{statement}

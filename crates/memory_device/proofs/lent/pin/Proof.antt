@@ -1,8 +1,8 @@
 -- `memory_device::lent::pin` meets its contract. Assumes nothing.
-use mathlib.Core.Bool.{true, false, not}
-use mathlib.Core.Path.{refl, sym, ap, _∙_}
+use mathlib.Core.Bool.{true}
+use mathlib.Core.Path.{refl, sym, _∙_}
 use borrow.Author.Tests.{not-true, not-false}
-use Rattle.device_words.specs.Device.{MemoryDevice, isPinned, withPins, withPin}
+use Rattle.device_words.specs.Device.{MemoryDevice, withPins, withPin}
 use Rattle.device_words.specs.Words.{deviceAt}
 use Rattle.memory_device.specs.Host.{pinFault, pinned}
 use Rattle.memory_device.specs.declared.device.HostAnswer.the-variants.{Pin}

@@ -9,8 +9,6 @@ use Rattle.memory_device.specs.SetUp.{managedIn}
 use Rattle.memory_device.proofs.SetUpLaws.{managed-here, managed-not}
 use Rattle.memory_device.proofs.setup.region_size.Statement.{statement}
 use Rattle.memory_device.proofs.setup.region_size.Tie as tie
-use Rattle.map_records.proofs.words.region_at.Reads as region-at-reads
-use Rattle.map_records.proofs.words.region_count.Reads as region-count-reads
 
 abbrev Inv-loop : tie.InvT-loop
 Inv-loop map count size₀ n₀ size n = (n ≤ count) × (size ≡ managedIn (mapOf map) n)

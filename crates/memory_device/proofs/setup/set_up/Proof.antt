@@ -6,7 +6,7 @@ use Rattle.region_map.proofs.Accepted.{is-accepted, passed-reply, accepted-soun
 use Rattle.map_records.specs.Words.{mapOf}
 use Rattle.region_map.proofs.MapWords.{accepted-words}
 use Rattle.region_map.specs.Check.{reply, Accepted}
-use mathlib.Core.Path.{_≡_, refl, sym, ap, _∙_}
+use mathlib.Core.Path.{_≡_, sym, ap, _∙_}
 use Rattle.region_map.specs.Reply.{Reply, plain}
 use Rattle.device_words.specs.Device.{MemoryDevice}
 use Rattle.memory_device.specs.Record.{Outcome}

@@ -6,20 +6,11 @@ use Rattle.wicktumble.proofs.DeviceCalls.{fresh-put, fresh-kept}
 use Rattle.wicktumble.proofs.devices.put_fresh.Statement.{statement}
 use Rattle.wicktumble.proofs.devices.put_fresh.Tie as tie
 
-number-of-requires : tie.Need-number-of-requires
-number-of-requires c κs = search needs
-
-words-of-requires : tie.Need-words-of-requires
-words-of-requires c κs = search needs
-
 slice-aggregate-copy-words : tie.Need-slice-aggregate-copy-words
 slice-aggregate-copy-words c = search needs
 
 copy-words-requires : tie.Need-copy-words-requires
 copy-words-requires c κs = c .before .before .before .before .before .before .pre ∙ slice-aggregate-copy-words c
-
-same-length : tie.Need-same-length
-same-length c = search needs
 
 returns : tie.Need-returns
 returns c =
@@ -34,11 +25,5 @@ returns-2 c =
 pub put-fresh-spec : {M : Type 1} → statement M
 put-fresh-spec =
     tie.close
-    (tie.spec
-    number-of-requires
-    words-of-requires
-    slice-aggregate-copy-words
-    copy-words-requires
-    same-length
-    returns
+    (tie.spec (λ c κs. search needs) (λ c κs. search needs) slice-aggregate-copy-words copy-words-requires (λ c. search needs) returns
     returns-2)

@@ -7,20 +7,8 @@ use Rattle.wicktumble.proofs.CallLaws.{taken, refused, result-fits, unt
 use Rattle.wicktumble.proofs.devices.wt_block_of_byte.Statement.{statement}
 use Rattle.wicktumble.proofs.devices.wt_block_of_byte.Tie as tie
 
-block-of-byte-requires : tie.Need-block-of-byte-requires
-block-of-byte-requires c κs = search needs
-
-say-block-requires : tie.Need-say-block-requires
-say-block-requires c κs = search needs
-
 tell-requires : tie.Need-tell-requires
-tell-requires c κs =
-    let s = c .before .before .before in
-    let a = s .before .before .before .args in
-    result-fits (isDevice (a .device .now)) (a .result .now) (s .if1 .taken)
-
-same-length : tie.Need-same-length
-same-length c = search needs
+tell-requires c κs = let a = c .before .before .before .before .before .before .args in result-fits (isDevice (a .device .now)) (a .result .now) (c .before .before .before .if1 .taken)
 
 returns : tie.Need-returns
 unfolding blockCall
@@ -35,10 +23,4 @@ returns-2 c = untold-as (refused _ _ (c .if1 .left))
 pub wt-block-of-byte-spec : {M : Type 1} → statement M
 wt-block-of-byte-spec =
     tie.close
-    (tie.spec
-    block-of-byte-requires
-    say-block-requires
-    tell-requires
-    same-length
-    returns
-    returns-2)
+    (tie.spec (λ c κs. search needs) (λ c κs. search needs) tell-requires (λ c. search needs) returns returns-2)

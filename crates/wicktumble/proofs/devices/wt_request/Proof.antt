@@ -7,18 +7,6 @@ use Rattle.wicktumble.proofs.devices.wt_request.Tie as tie
 request-of-requires : tie.Need-request-of-requires
 request-of-requires c κs = c .if1 .taken
 
-carry-out-requires : tie.Need-carry-out-requires
-carry-out-requires c κs = search needs
-
-number-of-requires : tie.Need-number-of-requires
-number-of-requires c κs = search needs
-
-same-length : tie.Need-same-length
-same-length c = search needs
-
-same-length-2 : tie.Need-same-length-2
-same-length-2 c = search needs
-
 returns : tie.Need-returns
 returns c =
     let s = c .before .before .before .before .before in
@@ -33,11 +21,4 @@ returns-2 c =
 pub wt-request-spec : {M : Type 1} → statement M
 wt-request-spec =
     tie.close
-    (tie.spec
-    request-of-requires
-    carry-out-requires
-    number-of-requires
-    same-length
-    same-length-2
-    returns
-    returns-2)
+    (tie.spec request-of-requires (λ c κs. search needs) (λ c κs. search needs) (λ c. search needs) (λ c. search needs) returns returns-2)

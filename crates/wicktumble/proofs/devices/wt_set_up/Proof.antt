@@ -15,9 +15,6 @@ use Rattle.wicktumble.proofs.CallLaws.{taken, refused, result-fits, unm
 use Rattle.wicktumble.proofs.devices.wt_set_up.Statement.{statement}
 use Rattle.wicktumble.proofs.devices.wt_set_up.Tie as tie
 
-set-up-requires : tie.Need-set-up-requires
-set-up-requires c κs = search needs
-
 put-fresh-requires : tie.Need-put-fresh-requires
 put-fresh-requires c κs =
     let s = c .before .before in
@@ -25,20 +22,11 @@ put-fresh-requires c κs =
     let fit = and-snd (isMap (a .map .now)) (isDevice (a .device .now) && isResult (a .result .now)) (s .if1 .taken) in
     eqb-true (length (a .device .now)) 37 (and-fst (isDevice (a .device .now)) (isResult (a .result .now)) fit)
 
-say-set-up-requires : tie.Need-say-set-up-requires
-say-set-up-requires c κs = search needs
-
 tell-requires : tie.Need-tell-requires
 tell-requires c κs =
     let s = c .before .before .before .before .before .before .before in
     let a = s .before .before .before .before .args in
     result-fits (isDevice (a .device .now)) (a .result .now) (and-snd (isMap (a .map .now)) (isDevice (a .device .now) && isResult (a .result .now)) (s .if1 .taken))
-
-same-length : tie.Need-same-length
-same-length c = search needs
-
-same-length-2 : tie.Need-same-length-2
-same-length-2 c = search needs
 
 returns : tie.Need-returns
 unfolding setUpCall
@@ -55,12 +43,5 @@ returns-2 c = unmade-as (refused _ _ (c .if1 .left))
 pub wt-set-up-spec : {M : Type 1} → statement M
 wt-set-up-spec =
     tie.close
-    (tie.spec
-    set-up-requires
-    put-fresh-requires
-    say-set-up-requires
-    tell-requires
-    same-length
-    same-length-2
-    returns
-    returns-2)
+    (tie.spec (λ c κs. search needs) put-fresh-requires (λ c κs. search needs) tell-requires (λ c. search needs) (λ c. search needs)
+    returns returns-2)

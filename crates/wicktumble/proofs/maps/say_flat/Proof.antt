@@ -3,47 +3,11 @@ use borrow.Author.Needs.{needs}
 use Rattle.wicktumble.proofs.maps.say_flat.Statement.{statement}
 use Rattle.wicktumble.proofs.maps.say_flat.Tie as tie
 
-number-of-requires : tie.Need-number-of-requires
-number-of-requires c κs = search needs
-
-enum-told : tie.Need-enum-told
-enum-told c = search needs
-
-say-requires : tie.Need-say-requires
-say-requires c κs = search needs
-
-enum-told-2 : tie.Need-enum-told-2
-enum-told-2 c = search needs
-
-say-requires-2 : tie.Need-say-requires-2
-say-requires-2 c κs = search needs
-
-enum-known-answer : tie.Need-enum-known-answer
-enum-known-answer c = search needs
-
-say-map-requires : tie.Need-say-map-requires
-say-map-requires c κs = search needs
-
-returns : tie.Need-returns
-returns c = search needs
-
-returns-2 : tie.Need-returns-2
-returns-2 c = search needs
-
 returns-3 : tie.Need-returns-3
 returns-3 c = rw (c .before .before .answer .given .1) (c .say-map .ensures)
 
 pub say-flat-spec : {M : Type 1} → statement M
 say-flat-spec =
     tie.close
-    (tie.spec
-    number-of-requires
-    enum-told
-    say-requires
-    enum-told-2
-    say-requires-2
-    enum-known-answer
-    say-map-requires
-    returns
-    returns-2
-    returns-3)
+    (tie.spec (λ c κs. search needs) (λ c. search needs) (λ c κs. search needs) (λ c. search needs) (λ c κs. search needs)
+    (λ c. search needs) (λ c κs. search needs) (λ c. search needs) (λ c. search needs) returns-3)

@@ -6,20 +6,8 @@ use Rattle.wicktumble.proofs.CallLaws.{taken, refused, result-fits, unt
 use Rattle.wicktumble.proofs.maps.wt_check_map.Statement.{statement}
 use Rattle.wicktumble.proofs.maps.wt_check_map.Tie as tie
 
-check-map-requires : tie.Need-check-map-requires
-check-map-requires c κs = search needs
-
-say-map-requires : tie.Need-say-map-requires
-say-map-requires c κs = search needs
-
 tell-requires : tie.Need-tell-requires
-tell-requires c κs =
-    let s = c .before .before .before in
-    let a = s .before .before .before .args in
-    result-fits (isMap (a .map .now)) (a .result .now) (s .if1 .taken)
-
-same-length : tie.Need-same-length
-same-length c = search needs
+tell-requires c κs = let a = c .before .before .before .before .before .before .args in result-fits (isMap (a .map .now)) (a .result .now) (c .before .before .before .if1 .taken)
 
 returns : tie.Need-returns
 unfolding checkCall
@@ -32,12 +20,4 @@ unfolding checkCall
 returns-2 c = untold-as (refused _ _ (c .if1 .left))
 
 pub wt-check-map-spec : {M : Type 1} → statement M
-wt-check-map-spec =
-    tie.close
-    (tie.spec
-    check-map-requires
-    say-map-requires
-    tell-requires
-    same-length
-    returns
-    returns-2)
+wt-check-map-spec = tie.close (tie.spec (λ c κs. search needs) (λ c κs. search needs) tell-requires (λ c. search needs) returns returns-2)

@@ -10,23 +10,11 @@ use Rattle.wicktumble.proofs.CallLaws.{taken, refused, result-fits, unm
 use Rattle.wicktumble.proofs.maps.wt_flatten.Statement.{statement}
 use Rattle.wicktumble.proofs.maps.wt_flatten.Tie as tie
 
-flatten-requires : tie.Need-flatten-requires
-flatten-requires c κs = search needs
-
-say-flat-requires : tie.Need-say-flat-requires
-say-flat-requires c κs = search needs
-
 tell-requires : tie.Need-tell-requires
 tell-requires c κs =
     let s = c .before .before .before .before .before .before in
     let a = s .before .before .before .before .args in
     result-fits (isView (a .view .now)) (a .result .now) (and-snd (isMap (a .map .now)) (isView (a .view .now) && isResult (a .result .now)) (s .if1 .taken))
-
-same-length : tie.Need-same-length
-same-length c = search needs
-
-same-length-2 : tie.Need-same-length-2
-same-length-2 c = search needs
 
 returns : tie.Need-returns
 unfolding flattenCall
@@ -41,11 +29,4 @@ returns-2 c = unmade-as (refused _ _ (c .if1 .left))
 pub wt-flatten-spec : {M : Type 1} → statement M
 wt-flatten-spec =
     tie.close
-    (tie.spec
-    flatten-requires
-    say-flat-requires
-    tell-requires
-    same-length
-    same-length-2
-    returns
-    returns-2)
+    (tie.spec (λ c κs. search needs) (λ c κs. search needs) tell-requires (λ c. search needs) (λ c. search needs) returns returns-2)

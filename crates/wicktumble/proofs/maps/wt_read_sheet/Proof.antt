@@ -6,23 +6,11 @@ use Rattle.wicktumble.proofs.CallLaws.{taken, refused, result-fits, unm
 use Rattle.wicktumble.proofs.maps.wt_read_sheet.Statement.{statement}
 use Rattle.wicktumble.proofs.maps.wt_read_sheet.Tie as tie
 
-read-sheet-requires : tie.Need-read-sheet-requires
-read-sheet-requires c κs = search needs
-
-say-sheet-requires : tie.Need-say-sheet-requires
-say-sheet-requires c κs = search needs
-
 tell-requires : tie.Need-tell-requires
 tell-requires c κs =
     let s = c .before .before .before .before .before .before in
     let a = s .before .before .before .before .args in
     result-fits (isMap (a .map .now)) (a .result .now) (s .if1 .taken)
-
-same-length : tie.Need-same-length
-same-length c = search needs
-
-same-length-2 : tie.Need-same-length-2
-same-length-2 c = search needs
 
 returns : tie.Need-returns
 unfolding readCall
@@ -37,11 +25,4 @@ returns-2 c = unmade-as (refused _ _ (c .if1 .left))
 pub wt-read-sheet-spec : {M : Type 1} → statement M
 wt-read-sheet-spec =
     tie.close
-    (tie.spec
-    read-sheet-requires
-    say-sheet-requires
-    tell-requires
-    same-length
-    same-length-2
-    returns
-    returns-2)
+    (tie.spec (λ c κs. search needs) (λ c κs. search needs) tell-requires (λ c. search needs) (λ c. search needs) returns returns-2)

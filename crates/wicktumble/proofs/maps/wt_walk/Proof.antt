@@ -7,20 +7,8 @@ use Rattle.wicktumble.proofs.CallLaws.{taken, refused, result-fits, unt
 use Rattle.wicktumble.proofs.maps.wt_walk.Statement.{statement}
 use Rattle.wicktumble.proofs.maps.wt_walk.Tie as tie
 
-resolve-address-requires : tie.Need-resolve-address-requires
-resolve-address-requires c κs = search needs
-
-say-walk-requires : tie.Need-say-walk-requires
-say-walk-requires c κs = search needs
-
 tell-requires : tie.Need-tell-requires
-tell-requires c κs =
-    let s = c .before .before .before in
-    let a = s .before .before .before .args in
-    result-fits (isMap (a .map .now)) (a .result .now) (s .if1 .taken)
-
-same-length : tie.Need-same-length
-same-length c = search needs
+tell-requires c κs = let a = c .before .before .before .before .before .before .args in result-fits (isMap (a .map .now)) (a .result .now) (c .before .before .before .if1 .taken)
 
 returns : tie.Need-returns
 unfolding walkCall
@@ -33,12 +21,4 @@ unfolding walkCall
 returns-2 c = untold-as (refused _ _ (c .if1 .left))
 
 pub wt-walk-spec : {M : Type 1} → statement M
-wt-walk-spec =
-    tie.close
-    (tie.spec
-    resolve-address-requires
-    say-walk-requires
-    tell-requires
-    same-length
-    returns
-    returns-2)
+wt-walk-spec = tie.close (tie.spec (λ c κs. search needs) (λ c κs. search needs) tell-requires (λ c. search needs) returns returns-2)

@@ -7,41 +7,14 @@ use Rattle.map_records.proofs.StoreLaws.{over}
 use Rattle.wicktumble.proofs.queue_words.put_queue.Statement.{statement}
 use Rattle.wicktumble.proofs.queue_words.put_queue.Tie as tie
 
-cast-words : tie.Need-cast-words
-cast-words c = search needs
-
-slice-write-words : tie.Need-slice-write-words
-slice-write-words c = search needs
-
-slice-write-words-2 : tie.Need-slice-write-words-2
-slice-write-words-2 c = search needs
-
-slice-write-words-3 : tie.Need-slice-write-words-3
-slice-write-words-3 c = search needs
-
-slice-write-words-4 : tie.Need-slice-write-words-4
-slice-write-words-4 c = search needs
-
-cast-words-2 : tie.Need-cast-words-2
-cast-words-2 c = search needs
-
 slice-write-words-5 : tie.Need-slice-write-words-5
 slice-write-words-5 c = simp length-set (omega (arith, c .before .before .pre))
-
-cast-words-3 : tie.Need-cast-words-3
-cast-words-3 c = search needs
 
 slice-write-words-6 : tie.Need-slice-write-words-6
 slice-write-words-6 c = simp length-set (omega (arith, c .before .before .before .pre))
 
-cast-words-4 : tie.Need-cast-words-4
-cast-words-4 c = search needs
-
 slice-write-words-7 : tie.Need-slice-write-words-7
 slice-write-words-7 c = simp length-set (omega (arith, c .before .before .before .before .pre))
-
-same-length : tie.Need-same-length
-same-length c = search needs
 
 returns : tie.Need-returns
 unfolding queueWords
@@ -52,17 +25,5 @@ returns c =
 pub put-queue-spec : {M : Type 1} → statement M
 put-queue-spec =
     tie.close
-    (tie.spec
-    cast-words
-    slice-write-words
-    slice-write-words-2
-    slice-write-words-3
-    slice-write-words-4
-    cast-words-2
-    slice-write-words-5
-    cast-words-3
-    slice-write-words-6
-    cast-words-4
-    slice-write-words-7
-    same-length
-    returns)
+    (tie.spec (λ c. search needs) (λ c. search needs) (λ c. search needs) (λ c. search needs) (λ c. search needs) (λ c. search needs)
+    slice-write-words-5 (λ c. search needs) slice-write-words-6 (λ c. search needs) slice-write-words-7 (λ c. search needs) returns)

@@ -9,29 +9,9 @@ returns : tie.Need-returns
 unfolding queueFits
 returns c = rw (ne-eqb _ _ (c .if1 .taken))
 
-shared-slice-read-result : tie.Need-shared-slice-read-result
-shared-slice-read-result c = search needs
-
-shared-slice-read-result-2 : tie.Need-shared-slice-read-result-2
-shared-slice-read-result-2 c = search needs
-
-shared-slice-read-result-3 : tie.Need-shared-slice-read-result-3
-shared-slice-read-result-3 c = search needs
-
-shared-slice-read-result-4 : tie.Need-shared-slice-read-result-4
-shared-slice-read-result-4 c = search needs
-
 returns-2 : tie.Need-returns-2
 unfolding queueFits
 returns-2 c = rw (eq-eqb _ _ (c .before .before .before .before .if1 .left))
 
 pub queue-fits-spec : {M : Type 1} → statement M
-queue-fits-spec =
-    tie.close
-    (tie.spec
-    returns
-    shared-slice-read-result
-    shared-slice-read-result-2
-    shared-slice-read-result-3
-    shared-slice-read-result-4
-    returns-2)
+queue-fits-spec = tie.close (tie.spec returns (λ c. search needs) (λ c. search needs) (λ c. search needs) (λ c. search needs) returns-2)
