@@ -9,7 +9,7 @@ use lib.Dec.{eqb, leb, ltb}
 use borrow.Author.Tests.{leb-true, ltb-true, eqb-true, eqb-false}
 use Rattle.region_map.proofs.Bools.{never, and-fst, and-snd}
 use Rattle.device_words.specs.Table.{bitAt, within, tableOf}
-use Rattle.device_words.specs.Device.{MemoryDevice, pinnedIn, isPinned, anyPinned, noBlocks, withPlugged, setUpOk, tablesOk, deviceOk}
+use Rattle.device_words.specs.Device.{MemoryDevice, pinnedIn, isPinned, anyPinned, noBlocks, withPlugged, setupKept, tablesOk, deviceOk}
 use Rattle.device_words.specs.Contracts.{Valid}
 use Rattle.device_words.specs.Request.{blockOf, inRange, heldOf, answered, isAck, withRun, acknowledged, changedBy}
 use Rattle.device_words.specs.declared.request.Request.{Request}
@@ -20,12 +20,12 @@ use Rattle.device_words.proofs.AnswerLaws.{in-end, ack-range, ack-kind,
 use Rattle.device_words.proofs.RuleLaws.{implies-of, only-of, setup-ruled, device-valid, valid-sizes, blocks-mono}
 
 -- the setup part of a record that keeps its rules
-pub setup-of : (d : MemoryDevice) → deviceOk d ≡ true → setUpOk d ≡ true
+pub setup-of : (d : MemoryDevice) → deviceOk d ≡ true → setupKept d ≡ true
 unfolding deviceOk
-setup-of d h = and-fst (setUpOk d) (tablesOk d) h
+setup-of d h = and-fst (setupKept d) (tablesOk d) h
 
 -- a record keeps its rules where its sizes do, what is plugged is usable, and what is pinned is plugged
-pub device-ok : (d : MemoryDevice) → setUpOk d ≡ true
+pub device-ok : (d : MemoryDevice) → setupKept d ≡ true
     → ((b : ℕ) → b < 1024 → bitAt (d .plugged) b ≡ true → b < d .«usable_size» / d .«block_size»)
     → ((b : ℕ) → b < 1024 → isPinned d b ≡ true → bitAt (d .plugged) b ≡ true) → deviceOk d ≡ true
 unfolding deviceOk tablesOk

@@ -11,7 +11,7 @@ use lib.Pow.{pow-mono}
 use borrow.Author.Tests.{leb-true, ltb-true, lt-ltb, eqb-true, eqb-false, not-true, eq-eqb, ne-eqb}
 use Rattle.device_words.specs.Table.{bitAt, only, implies}
 use Rattle.region_map.specs.Fault.{limit}
-use Rattle.device_words.specs.Device.{MemoryDevice, isPinned, powerBelow, blockOk, regionOk, addrOk, sizesOk, setupOk, setUpOk, tablesOk, deviceOk}
+use Rattle.device_words.specs.Device.{MemoryDevice, isPinned, powerBelow, blockOk, regionOk, addrOk, sizesOk, setupOk, setupKept, tablesOk, deviceOk}
 use Rattle.device_words.specs.Contracts.{Valid, Sized}
 use Rattle.device_words.proofs.TableLaws.{all-true, all-of}
 use Rattle.region_map.proofs.Bools.{never, and-fst, and-snd, and-off}
@@ -138,8 +138,8 @@ pub device-valid : (d : MemoryDevice) → deviceOk d ≡ true → Valid d
 unfolding deviceOk tablesOk
 device-valid d h =
     let b = d .«block_size» in
-    let s = setup-ruled b (d .addr) (d .«region_size») (d .«usable_size») (d .«requested_size») (and-fst (setUpOk d) (tablesOk d) h) in
-    let t = and-snd (setUpOk d) (tablesOk d) h in
+    let s = setup-ruled b (d .addr) (d .«region_size») (d .«usable_size») (d .«requested_size») (and-fst (setupKept d) (tablesOk d) h) in
+    let t = and-snd (setupKept d) (tablesOk d) h in
     let plugs = bitAt (d .plugged) in
     let two = only plugs (d .«region_size» / b) && only (isPinned d) (d .«region_size» / b) in
     let three = two && only plugs (d .«usable_size» / b) in

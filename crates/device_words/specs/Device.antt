@@ -56,8 +56,8 @@ sizesOk b region usable requested = leb requested usable && leb usable region &&
 unfoldable pub setupOk : ℕ → ℕ → ℕ → ℕ → ℕ → Bool
 setupOk b addr region usable requested = blockOk b && (regionOk b region && (addrOk b addr region && sizesOk b region usable requested))
 
-abbrev pub setUpOk : MemoryDevice → Bool
-setUpOk d = setupOk (d .«block_size») (d .addr) (d .«region_size») (d .«usable_size») (d .«requested_size»)
+abbrev pub setupKept : MemoryDevice → Bool
+setupKept d = setupOk (d .«block_size») (d .addr) (d .«region_size») (d .«usable_size») (d .«requested_size»)
 
 -- 27 for the device: 'a plugged or pinned block outside the region, a plugged one outside the usable part, a pinned one not plugged'
 unfoldable pub tablesOk : MemoryDevice → Bool
@@ -66,7 +66,7 @@ tablesOk d =
     && only (bitAt (d .plugged)) (d .«usable_size» / d .«block_size») && implies (isPinned d) (bitAt (d .plugged))
 
 unfoldable pub deviceOk : MemoryDevice → Bool
-deviceOk d = setUpOk d && tablesOk d
+deviceOk d = setupKept d && tablesOk d
 
 -- 'Fresh: nothing plugged or pinned'
 abbrev pub noBlocks : List ℕ

@@ -3,7 +3,7 @@ ghost use mathlib.Core.Path.{_≡_};
 ghost use Prim.Native.Nat.{_≤_, _<_};
 ghost use mathlib.Core.Bool.{true, _&&_};
 ghost use lib.ListN.{length};
-ghost use Rattle.device_words.specs.Device.{blockOk, regionOk, addrOk, sizesOk, setupOk, setUpOk, tablesOk, deviceOk};
+ghost use Rattle.device_words.specs.Device.{blockOk, regionOk, addrOk, sizesOk, setupOk, setupKept, tablesOk, deviceOk};
 ghost use Rattle.device_words.specs.Words.{isDevice, deviceAt, deviceOf};
 use crate::pins::pins_plugged;
 use crate::plugs::blocks_in;
@@ -71,7 +71,7 @@ pub fn setup_ok(block: u64, addr: GuestAddress, region: u64, usable: u64, reques
 // 27's rules over the two tables: what is plugged lies in the usable part, and what is pinned is
 // plugged. That both lie in the region follows.
 fn tables_ok(device: &[u64]) -> bool
-    requires { ⌜ (length (now device) ≡ 37) × (setUpOk (deviceAt (now device)) ≡ true) ⌝ }
+    requires { ⌜ (length (now device) ≡ 37) × (setupKept (deviceAt (now device)) ≡ true) ⌝ }
     ensures { λ r. ⌜ r ≡ tablesOk (deviceAt (now (device .entry))) ⌝ }
 {
     let blocks = blocks_in(device, device[USABLE_SIZE]);
