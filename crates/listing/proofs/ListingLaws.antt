@@ -20,7 +20,8 @@ use Rattle.region_map.specs.Check.{judged}
 use Rattle.region_map.specs.Flatten.{flatReply, flatList, viewHolding, refusal, listed, Outcome, flattened, Made, laidInto, flattenedInto}
 use Rattle.region_map.specs.declared.view.FlatAnswer.{FlatAnswer}
 use Rattle.region_map.specs.declared.view.FlatAnswer.the-variants.{Checked, TooMany, Record}
-use Rattle.sheet.proofs.ReadLaws.{map-zero, Said, said, puts-injective}
+use Rattle.map_records.proofs.GroupLaws.{puts-injective}
+use Rattle.sheet.proofs.ReadLaws.{map-zero, Said, said}
 use Rattle.listing.specs.Text.{refusalText, Puts, Fills}
 use Rattle.listing.specs.Listing.{rangeText, rangesText, viewText}
 use Rattle.listing.proofs.TextLaws.{puts-then, fills-refused, fills-passed}

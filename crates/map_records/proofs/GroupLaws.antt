@@ -2,10 +2,10 @@
 use mathlib.Core.Path.{_≡_, refl, sym, ap, _∙_}
 use mathlib.Core.List.{List, [], _∷_, _++_, append-assoc}
 use Prim.Native.Nat.{ℕ, zero, suc, _+_, _*_, _≤_, _<_}
-use native.Mathlib.Nat.{mul-zero, mul-suc}
+use native.Mathlib.Nat.{mul-zero, mul-suc, zero-add}
 use native.Mathlib.Omega.{arith}
 use lib.ListN.{length, set, getD, take, drop, replicate, length-append, length-drop, take-append-drop}
-use lib.Seq.{sets, drop-drop, ext-getD, getD-take, getD-drop, length-take-le}
+use lib.Seq.{sets, drop-drop, ext-getD, getD-take, getD-drop, length-take-le, take-at, drop-at}
 use Rattle.map_records.specs.Words.{eachAt, eachWords}
 use Rattle.map_records.proofs.StoreLaws.{sets-below, sets-above, sets-within}
 
@@ -91,3 +91,20 @@ module _ {A : Type 0} {read : List ℕ → ℕ → A} {put : A → List ℕ} {k 
       ∙ ap (λ (l : List ℕ). put (read w at) ++ l) (words-back w (at + k) n (omega (arith, mul-suc k n)))
       ∙ sym (append-assoc (put (read w at)) (eachWords put (eachAt read k w (at + k) n)) (drop (at + k + k * n) w))
       ∙ rw e
+
+  -- ---- words fix the records that they stand for
+  put-injective : (x y : A) → put x ≡ put y → x ≡ y
+  put-injective x y e = sym (back x) ∙ ap (λ (w : List ℕ). read w 0) e ∙ back y
+    where
+      back : (z : A) → read (put z) 0 ≡ z
+      back z = s .back (put z) 0 z (λ j h. ap (λ (i : ℕ). getD (put z) i 0) (zero-add j))
+
+  pub puts-injective : 0 < k → (xs ys : List A) → eachWords put xs ≡ eachWords put ys → xs ≡ ys
+  unfolding eachWords
+  puts-injective some [] [] e = refl
+  puts-injective some [] (y ∷ ys) e = absurd (omega (arith, ap length e, length-append (put y) (eachWords put ys), s .size y))
+  puts-injective some (x ∷ xs) [] e = absurd (omega (arith, ap length (sym e), length-append (put x) (eachWords put xs), s .size x))
+  puts-injective some (x ∷ xs) (y ∷ ys) e =
+      let front = sym (take-at (put x) (eachWords put xs) k (s .size x)) ∙ ap (take k) e ∙ take-at (put y) (eachWords put ys) k (s .size y) in
+      let rest = sym (drop-at (put x) (eachWords put xs) k (s .size x)) ∙ ap (drop k) e ∙ drop-at (put y) (eachWords put ys) k (s .size y) in
+      (λ i. put-injective x y front i ∷ puts-injective some xs ys rest i)

@@ -3,15 +3,13 @@ use mathlib.Core.Path.{_≡_, refl, sym, ap, _∙_}
 use mathlib.Core.Bool.{Bool, true, false, cond}
 use mathlib.Core.List.{List, [], _∷_, _++_}
 use Prim.Native.Nat.{ℕ, _<_}
-use native.Mathlib.Nat.{zero-add}
 use native.Mathlib.Omega.{arith}
 use lib.Dec.{eqb, ltb}
 use lib.ListN.{length, take, drop, getD, length-append}
-use lib.Seq.{take-at, drop-at}
 use borrow.Author.Tests.{eq-eqb, ne-eqb}
 use Rattle.map_records.specs.Words.{mapOf, mapWords}
 use Rattle.map_records.specs.declared.map.RegionMap.{RegionMap}
-use Rattle.map_records.proofs.GroupLaws.{Grouped}
+use Rattle.map_records.proofs.GroupLaws.{puts-injective}
 use Rattle.map_records.proofs.WordLaws.{regions-grouped, map-back}
 use Rattle.region_map.specs.Reply.{Reply, accepted, nodes, place, plain, passes, numberOf}
 use Rattle.region_map.specs.Check.{reply, countFault, judged, Accepted}
@@ -60,26 +58,7 @@ said zero e k =
       passed = λ z. ap passes (sym e) ∙ sym zero ∙ eq-eqb _ 0 (sym k ∙ z);
     }
 
--- ---- words fix the records that they stand for
-module _ {A : Type 0} {read : List ℕ → ℕ → A} {reads : List ℕ → ℕ → ℕ → List A} {put : A → List ℕ} {puts : List A → List ℕ} {k : ℕ} (s : Grouped read reads put puts k) (some : 0 < k) where
-  put-injective : (x y : A) → put x ≡ put y → x ≡ y
-  put-injective x y e = sym (back x) ∙ ap (λ (w : List ℕ). read w 0) e ∙ back y
-    where
-      back : (z : A) → read (put z) 0 ≡ z
-      back z = s .back (put z) 0 z (λ j h. ap (λ (i : ℕ). getD (put z) i 0) (zero-add j))
-
-  pub puts-injective : (xs ys : List A) → puts xs ≡ puts ys → xs ≡ ys
-  puts-injective [] [] e = refl
-  puts-injective [] (y ∷ ys) e =
-      absurd (omega (arith, ap length (sym (s .«put-none») ∙ e ∙ s .«put-more» y ys), length-append (put y) (puts ys), s .size y))
-  puts-injective (x ∷ xs) [] e =
-      absurd (omega (arith, ap length (sym (s .«put-none») ∙ sym e ∙ s .«put-more» x xs), length-append (put x) (puts xs), s .size x))
-  puts-injective (x ∷ xs) (y ∷ ys) e =
-      let p : put x ++ puts xs ≡ put y ++ puts ys = sym (s .«put-more» x xs) ∙ e ∙ s .«put-more» y ys in
-      let front = sym (take-at (put x) (puts xs) k (s .size x)) ∙ ap (take k) p ∙ take-at (put y) (puts ys) k (s .size y) in
-      let rest = sym (drop-at (put x) (puts xs) k (s .size x)) ∙ ap (drop k) p ∙ drop-at (put y) (puts ys) k (s .size y) in
-      (λ i. put-injective x y front i ∷ puts-injective xs ys rest i)
-
+-- ---- words fix the map that they stand for
 map-words-injective : (m n : RegionMap) → mapWords m ≡ mapWords n → m ≡ n
 unfolding mapWords
 map-words-injective m n e =

@@ -5,13 +5,13 @@ use mathlib.Core.List.{List, [], _∷_}
 use Prim.Native.Nat.{ℕ, _-_, _*_, _≤_, _<_}
 use native.Mathlib.Decide.{decLt}
 use native.Mathlib.Omega.{arith}
-use lib.ListN.{length, replicate, length-append, length-replicate}
+use lib.ListN.{length, getD, drop, replicate, length-append, length-replicate}
 use Rattle.map_records.specs.View.{noRange}
-use Rattle.map_records.specs.Words.{viewOf, eachWords, rangeWords, viewWords}
+use Rattle.map_records.specs.Words.{viewOf, viewWords}
 use Rattle.map_records.specs.declared.map.RegionMap.{RegionMap}
-use Rattle.map_records.specs.declared.view.FlatRange.{FlatRange}
 use Rattle.map_records.specs.declared.view.FlatView.{FlatView}
-use Rattle.map_records.proofs.WordLaws.{view-back, full-words}
+use Rattle.map_records.proofs.WordLaws.{ranges-grouped, view-back}
+use Rattle.map_records.proofs.GroupLaws.{puts-length, puts-injective}
 use Rattle.region_map.specs.Check.{judged, Accepted}
 use Rattle.region_map.specs.Reply as reply
 use Rattle.region_map.specs.Reply.{Reply, accepted, plain, ifAccepted}
@@ -20,37 +20,14 @@ use Rattle.region_map.specs.Flatten as flatten
 use Rattle.region_map.proofs.Demand3.{demand3-first-half, refused-12}
 
 -- the words of a view stand for it
-ranges-length : (rs : List FlatRange) → length (eachWords rangeWords rs) ≡ 6 * length rs
-unfolding eachWords
-ranges-length [] = refl
-ranges-length (r ∷ rs) = length-append (rangeWords r) (eachWords rangeWords rs) ∙ omega (arith, ranges-length rs)
-
-ranges-same : (rs ss : List FlatRange) → length rs ≡ length ss → eachWords rangeWords rs ≡ eachWords rangeWords ss → rs ≡ ss
-unfolding eachWords
-ranges-same [] [] l e = refl
-ranges-same [] (s ∷ ss) l e = absurd (omega arith)
-ranges-same (r ∷ rs) [] l e = absurd (omega arith)
-ranges-same (r ∷ rs) (s ∷ ss) l e =
-    let a : r .first .0 ≡ s .first .0 = cc in
-    let b : r .last .0 ≡ s .last .0 = cc in
-    let c : r .region ≡ s .region = cc in
-    let d : r .offset .0 ≡ s .offset .0 = cc in
-    let k : r .kind ≡ s .kind = cc in
-    let x : r .base ≡ s .base = cc in
-    let t : eachWords rangeWords rs ≡ eachWords rangeWords ss = cc in
-    let rest = ranges-same rs ss (omega arith) t in
-    λ i. record { first = record { 0 = a i }; last = record { 0 = b i }; region = c i; offset = record { 0 = d i }; kind = k i; base = x i } ∷ rest i
-
 pub words-view : (v : FlatView) → length (v .ranges) ≡ 256 → viewOf (viewWords v) ≡ v
 unfolding viewWords
 words-view v h =
-    let size : length (viewWords v) ≡ 1537 = omega (arith, ranges-length (v .ranges)) in
+    let size : length (viewWords v) ≡ 1537 = omega (arith, puts-length ranges-grouped (v .ranges)) in
     let e : viewWords (viewOf (viewWords v)) ≡ viewWords v = view-back (viewWords v) size in
-    let w : FlatView = viewOf (viewWords v) in
-    let c : w .count ≡ v .count = cc in
-    let t : eachWords rangeWords (w .ranges) ≡ eachWords rangeWords (v .ranges) = cc in
-    let r = ranges-same (w .ranges) (v .ranges) (full-words (viewWords v) ∙ sym h) t in
-    λ i. record { count = c i; ranges = r i }
+    let count : viewOf (viewWords v) .count ≡ v .count = ap (λ (l : List ℕ). getD l 0 0) e in
+    let ranges = puts-injective ranges-grouped (omega arith) (viewOf (viewWords v) .ranges) (v .ranges) (ap (drop 1) e) in
+    λ i. record { count = count i; ranges = ranges i }
 
 -- what a made view says of its map
 pub record Made (m : RegionMap) (size : ℕ) (view : List ℕ) : Type 0 where
