@@ -1,11 +1,11 @@
 -- What a caller of the reader knows of the sheet's map: a number is 0 where nothing is refused and only there, the lent words stand for the map, and the map of an accepted sheet is accepted. Assumes nothing.
 use mathlib.Core.Path.{_≡_, refl, sym, ap, _∙_}
 use mathlib.Core.Bool.{Bool, true, false, cond}
-use mathlib.Core.List.{List, [], _∷_, _++_}
-use Prim.Native.Nat.{ℕ, _<_}
+use mathlib.Core.List.{List}
+use Prim.Native.Nat.{ℕ}
 use native.Mathlib.Omega.{arith}
 use lib.Dec.{eqb, ltb}
-use lib.ListN.{length, take, drop, getD, length-append}
+use lib.ListN.{length, drop, getD}
 use borrow.Author.Tests.{eq-eqb, ne-eqb}
 use Rattle.map_records.specs.Words.{mapOf, mapWords}
 use Rattle.map_records.specs.declared.map.RegionMap.{RegionMap}

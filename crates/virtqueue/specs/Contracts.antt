@@ -10,10 +10,10 @@ use Rattle.map_records.specs.View.{entries}
 use Rattle.map_records.specs.declared.view.FlatView.{FlatView}
 use Rattle.map_records.specs.Words.{viewOf}
 use Rattle.device_words.specs.Table.{allBelow}
-use Rattle.device_words.specs.Device.{MemoryDevice, pluggedIn}
+use Rattle.device_words.specs.Device.{MemoryDevice, pluggedIn, deviceOk}
 use Rattle.device_words.specs.Words.{deviceOf}
 use Rattle.guest_view.specs.Guest.{Guest, allReach, byteAt, addresses, leafAt, viewGuest, byView}
-use Rattle.virtqueue.specs.Queue.{ringEntry, usedEntry, usedIdx}
+use Rattle.virtqueue.specs.Queue.{queueOk, ringEntry, usedEntry, usedIdx}
 use Rattle.virtqueue.specs.Chain.{Chain, Entry, out, here, endOf, isWritable, misplaced, reached, chainAt}
 use Rattle.virtqueue.specs.Route.{Routed, follows, routed}
 use Rattle.virtqueue.specs.Step.{Way, halted, quiet, along, Offer, stop, nothing, ready, idx, flags, entry, offers, notifies, chainOf, requestBytes, responsePlaces, offerChain, offered, steppedBy, Effect}
@@ -22,6 +22,8 @@ use Rattle.virtqueue.specs.declared.chain.Descriptor.{Descriptor}
 use Rattle.virtqueue.specs.declared.chain.Fetched.{Fetched}
 use Rattle.virtqueue.specs.declared.chain.Fetched.the-variants as fetched
 use Rattle.virtqueue.specs.declared.queue.SplitQueue.{SplitQueue}
+use Rattle.virtqueue.specs.declared.run.Ran.{Ran}
+use Rattle.virtqueue.specs.declared.run.RunEnd.the-variants as end
 use Rattle.virtqueue.specs.declared.take.AvailableNotices.{AvailableNotices}
 use Rattle.virtqueue.specs.declared.take.AvailableNotices.the-variants as notices
 use Rattle.virtqueue.specs.declared.take.HeadEntry.{HeadEntry}
@@ -45,6 +47,20 @@ pub record Lent (view mem : List ℕ) (block : ℕ) (plugged : List ℕ) : Type 
 pub record Buffers (request places : List ℕ) : Type 0 where
   pub bytes : length request ≡ 24
   pub room : length places ≡ 10
+
+-- what the whole reading half relies on
+pub record Taking (view mem : List ℕ) (block : ℕ) (plugged : List ℕ) (q : SplitQueue) (request places : List ℕ) : Type 0 where
+  pub lent : Lent view mem block plugged
+  pub queue : queueOk q ≡ true
+  pub buffers : Buffers request places
+
+-- what a step on records that were judged relies on
+pub record Stepping (view device mem : List ℕ) (q : SplitQueue) : Type 0 where
+  pub judged : Judged view
+  pub backed : Backed (viewOf view) (length mem)
+  pub words : length device ≡ 37
+  pub valid : deviceOk (deviceOf device) ≡ true
+  pub queue : queueOk q ≡ true
 
 -- ---- routing over a judged view: is an access whole, and what it is answered
 abbrev pub isWhole : List ℕ → ℕ → ℕ → Bool
@@ -105,6 +121,10 @@ pub record Got : Type 0 where
 
 abbrev pub gotOf : Gathered → List ℕ → List ℕ → Got
 gotOf s request places = record { request = request; readable = s .readable; places = places; writable = s .writable; late = s .late }
+
+-- nothing yet
+abbrev pub nothingYet : Gathered
+nothingYet = record { stop = 0; readable = 0; writable = 0; late = false }
 
 -- the lent buffers have 24 bytes and 10 places, of which no more are there
 pub record Filled (s : Gathered) (request places : List ℕ) : Type 0 where
@@ -176,3 +196,7 @@ TakesAll view mem block plugged q = Takes (guestIn view block plugged) mem (offe
 -- a step over words that 27 let pass
 abbrev pub steppedIn : List ℕ → List ℕ → SplitQueue → List ℕ → Effect MemoryDevice
 steppedIn view device q memory = steppedBy (byView (viewOf view) (deviceOf device)) (deviceOf device) q memory
+
+-- a run on records that 27 refuses
+abbrev pub refusedRun : SplitQueue → Ran
+refusedRun q = record { served = 0; notified = false; end = end.Refused 27; queue = q }

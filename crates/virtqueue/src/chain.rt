@@ -5,7 +5,8 @@ ghost use lib.ListN.{length};
 ghost use Rattle.map_records.specs.Words.{viewOf};
 ghost use Rattle.guest_view.specs.Contracts.{Judged, Backed, InMemory, placeIn};
 ghost use Rattle.virtqueue.specs.Chain.{hasNext, isWritable, misplaced, descriptorAt, fetched};
-ghost use Rattle.virtqueue.specs.Contracts.{guestIn, entryBy, Lent, Buffers, Small, Filled, added, gotOf, VisitsIn, GathersIn};
+ghost use Rattle.virtqueue.specs.Contracts.{guestIn, entryBy, Lent, Buffers, Small};
+ghost use Rattle.virtqueue.specs.Contracts.{nothingYet, Filled, added, gotOf, VisitsIn, GathersIn};
 use guest_view::find::near;
 use guest_view::memory::find_places;
 use guest_view::memory::number_from;
@@ -154,6 +155,18 @@ fn add_element(
     }
 }
 
+// A chain of which nothing is taken yet.
+fn begun() -> Gathered
+    ensures { λ r. ⌜ r ≡ nothingYet ⌝ }
+{
+    Gathered {
+        stop: 0,
+        readable: 0,
+        writable: 0,
+        late: false,
+    }
+}
+
 // A chain that a number ended.
 fn ended(stop: u8) -> Gathered
     ensures { λ r. ⌜ r .stop ≡ stop ⌝ }
@@ -207,40 +220,31 @@ pub fn gather(
     request: &mut [u8],
     places: &mut [usize],
 ) -> Gathered
-    requires { ⌜ Lent (now view) (now mem) block (now plugged) ⌝ }
+    requires { ⌜ Lent (now view) (now mem) block (now plugged) × Buffers (now request) (now places) ⌝ }
     requires { ⌜ (table .0 ≤ 281474976710656) × (size ≤ 256) × (head < size) ⌝ }
-    requires { ⌜ Buffers (now request) (now places) ⌝ }
     ensures { λ r. ⌜ GathersIn (now (view .entry)) (now (mem .entry)) block (now (plugged .entry)) (table .0) size head
         (r .stop) (gotOf r (now (request .exit)) (now (places .exit))) ⌝ }
 {
-    let mut so_far = Gathered {
-        stop: 0,
-        readable: 0,
-        writable: 0,
-        late: false,
-    };
+    let mut so_far = begun();
     let mut i = head;
     let mut left = size;
     while 0 < left {
-        match fetch(view, block, plugged, mem, table, i, hint) {
-            Fetched::Out => {
-                return ended(17);
-            }
-            Fetched::Here(d) => {
-                so_far = visit(view, block, plugged, mem, hint, d, so_far, request, places);
-                if so_far.stop != 0 {
-                    return so_far;
-                }
-                if !has_next(d) {
-                    return so_far;
-                }
-                if size <= d.next {
-                    return ended(20);
-                }
-                i = d.next;
-                left -= 1;
-            }
+        let entry = fetch(view, block, plugged, mem, table, i, hint);
+        let Fetched::Here(d) = entry else {
+            return ended(17);
+        };
+        so_far = visit(view, block, plugged, mem, hint, d, so_far, request, places);
+        if so_far.stop != 0 {
+            return so_far;
         }
+        if !has_next(d) {
+            return so_far;
+        }
+        if size <= d.next {
+            return ended(20);
+        }
+        i = d.next;
+        left -= 1;
     }
     ended(20)
 }

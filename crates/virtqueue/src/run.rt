@@ -1,7 +1,9 @@
 // A run of steps, with the device changed where it lies.
+ghost use mathlib.Core.Path.{_≡_};
 ghost use Rattle.map_records.specs.Words.{viewOf};
 ghost use Rattle.device_words.specs.Words.{deviceOf};
 ghost use Rattle.virtqueue.specs.Run.{RunDoes, ran};
+ghost use Rattle.virtqueue.specs.Contracts.{refusedRun};
 use crate::in_place::records_ok;
 use crate::queue::SplitQueue;
 use crate::serve::step_judged;
@@ -27,6 +29,18 @@ pub struct Ran {
     pub queue: SplitQueue,
 }
 
+// A run on records that 27 refuses.
+fn refused_run(queue: SplitQueue) -> Ran
+    ensures { λ r. ⌜ r ≡ refusedRun queue ⌝ }
+{
+    Ran {
+        served: 0,
+        notified: false,
+        end: RunEnd::Refused(27),
+        queue: queue,
+    }
+}
+
 // Up to k steps, at most 256. The records are judged once.
 pub fn run_steps(view: &[u64], device: &mut [u64], queue: SplitQueue, mem: &mut [u8], k: u64) -> Ran
     ensures { λ r. ⌜ RunDoes (now (device .entry))
@@ -34,12 +48,7 @@ pub fn run_steps(view: &[u64], device: &mut [u64], queue: SplitQueue, mem: &mut 
         r (now (device .exit)) (now (mem .exit)) ⌝ }
 {
     if !records_ok(view, device, queue, mem.len() as u64) {
-        return Ran {
-            served: 0,
-            notified: false,
-            end: RunEnd::Refused(27),
-            queue: queue,
-        };
+        return refused_run(queue);
     }
     let mut queue_now = queue;
     let mut served: u64 = 0;

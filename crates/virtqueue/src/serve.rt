@@ -4,14 +4,13 @@ ghost use mathlib.Core.Bool.{true};
 ghost use Prim.Native.Nat.{_<_};
 ghost use lib.ListN.{length};
 ghost use Rattle.device_words.specs.Contracts.{Sized};
-ghost use Rattle.device_words.specs.Device.{deviceOk};
 ghost use Rattle.map_records.specs.Words.{viewOf};
-ghost use Rattle.guest_view.specs.Contracts.{Judged, Backed, Within, placeIn};
+ghost use Rattle.guest_view.specs.Contracts.{Judged, Within, placeIn};
 ghost use Rattle.device_words.specs.Words.{deviceOf, deviceWords};
 ghost use Rattle.virtqueue.specs.Queue.{queueOk, stoppedBy, advanced as advancedQueue};
 ghost use Rattle.virtqueue.specs.Step.{usedPlaces, usedBytes, carrying, servedMemory};
 ghost use Rattle.virtqueue.specs.Does.{DoesIn};
-ghost use Rattle.virtqueue.specs.Contracts.{UsedIn, steppedIn};
+ghost use Rattle.virtqueue.specs.Contracts.{UsedIn, Stepping, steppedIn};
 use crate::queue::SplitQueue;
 use crate::ring::used_entry;
 use crate::ring::used_idx;
@@ -101,27 +100,16 @@ pub fn step_judged(
     mem: &mut [u8],
     hint: usize,
 ) -> Moved
-    requires { ⌜ Judged (now view) ⌝ }
-    requires { ⌜ Backed (viewOf (now view)) (length (now mem)) ⌝ }
-    requires { ⌜ (length (now device) ≡ 37) × (deviceOk (deviceOf (now device)) ≡ true) ⌝ }
-    requires { ⌜ queueOk queue ≡ true ⌝ }
+    requires { ⌜ Stepping (now view) (now device) (now mem) queue ⌝ }
     ensures { λ r. ⌜ DoesIn (now (device .entry))
         (steppedIn (now (view .entry)) (now (device .entry)) queue (now (mem .entry)))
         r (now (device .exit)) (now (mem .exit)) ⌝ }
 {
-    let mut request = [0u8; 24];
+    let mut sent = [0u8; 24];
     let mut places = [0usize; 10];
     let block = block_size(device);
-    let offer = take(
-        view,
-        block,
-        plugged(device),
-        queue,
-        mem,
-        hint,
-        &mut request,
-        &mut places,
-    );
+    let table = plugged(device);
+    let offer = take(view, block, table, queue, mem, hint, &mut sent, &mut places);
     match offer {
         TakenOffer::Stop(k) => Moved {
             outcome: StepOutcome::Refused(k),
@@ -135,7 +123,7 @@ pub fn step_judged(
             let mut used = [0usize; 10];
             used_places(view, queue, hint, &mut used);
             let bytes = used_bytes(head, queue.next_used);
-            serve(device, mem, request, &places, &used, &bytes);
+            serve(device, mem, sent, &places, &used, &bytes);
             Moved {
                 outcome: StepOutcome::Served(notify),
                 queue: advanced(queue),

@@ -6,7 +6,7 @@ ghost use lib.ListN.{length};
 ghost use Rattle.guest_view.specs.Contracts.{Judged};
 ghost use Rattle.virtqueue.specs.Queue.{queueOk};
 ghost use Rattle.virtqueue.specs.Step.{usedReached};
-ghost use Rattle.virtqueue.specs.Contracts.{guestIn, Lent, Buffers, noticesOf, headOf, TakesChain, TakesAll, shapeFrom};
+ghost use Rattle.virtqueue.specs.Contracts.{guestIn, Lent, Taking, noticesOf, headOf, TakesChain, TakesAll, shapeFrom};
 use crate::chain::Gathered;
 use crate::chain::gather;
 use crate::queue::SplitQueue;
@@ -129,10 +129,8 @@ fn take_chain(
     request: &mut [u8],
     places: &mut [usize],
 ) -> TakenOffer
-    requires { ⌜ Lent (now view) (now mem) block (now plugged) ⌝ }
-    requires { ⌜ queueOk queue ≡ true ⌝ }
+    requires { ⌜ Taking (now view) (now mem) block (now plugged) queue (now request) (now places) ⌝ }
     requires { ⌜ head < queue .size ⌝ }
-    requires { ⌜ Buffers (now request) (now places) ⌝ }
     ensures { λ r. ⌜ TakesChain (now (view .entry)) (now (mem .entry)) block (now (plugged .entry)) queue head notify r
         (now (request .exit)) (now (places .exit)) ⌝ }
 {
@@ -171,9 +169,7 @@ pub fn take(
     request: &mut [u8],
     places: &mut [usize],
 ) -> TakenOffer
-    requires { ⌜ Lent (now view) (now mem) block (now plugged) ⌝ }
-    requires { ⌜ queueOk queue ≡ true ⌝ }
-    requires { ⌜ Buffers (now request) (now places) ⌝ }
+    requires { ⌜ Taking (now view) (now mem) block (now plugged) queue (now request) (now places) ⌝ }
     ensures { λ r. ⌜ TakesAll (now (view .entry)) (now (mem .entry)) block (now (plugged .entry)) queue r
         (now (request .exit)) (now (places .exit)) ⌝ }
 {

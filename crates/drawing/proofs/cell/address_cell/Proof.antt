@@ -11,24 +11,6 @@ use borrow.Author.Needs.{needs}
 use Rattle.drawing.proofs.cell.address_cell.Statement.{statement}
 use Rattle.drawing.proofs.cell.address_cell.Tie as tie
 
-mul-column-address : tie.Need-mul-column-address
-mul-column-address c = search needs
-
-column-address-requires : tie.Need-column-address-requires
-column-address-requires c κs = search needs
-
-hex-requires : tie.Need-hex-requires
-hex-requires c κs = search needs
-
-array-share-prefix-digits : tie.Need-array-share-prefix-digits
-array-share-prefix-digits c = search needs
-
-slice-aggregate-letter : tie.Need-slice-aggregate-letter
-slice-aggregate-letter c = search needs
-
-letter-requires : tie.Need-letter-requires
-letter-requires c κs = search needs
-
 returns : tie.Need-returns
 unfolding addressCell
 returns c =
@@ -42,11 +24,5 @@ returns c =
 pub address-cell-spec : {M : Type 1} → statement M
 address-cell-spec =
     tie.close
-    (tie.spec
-    mul-column-address
-    column-address-requires
-    hex-requires
-    array-share-prefix-digits
-    slice-aggregate-letter
-    letter-requires
-    returns)
+    (tie.spec (λ c. search needs) (λ c κs. search needs) (λ c κs. search needs) (λ c. search needs) (λ c. search needs)
+    (λ c κs. search needs) returns)

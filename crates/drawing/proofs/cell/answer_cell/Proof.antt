@@ -5,24 +5,6 @@ use borrow.Author.Needs.{needs}
 use Rattle.drawing.proofs.cell.answer_cell.Statement.{statement}
 use Rattle.drawing.proofs.cell.answer_cell.Tie as tie
 
-resolve-address-requires : tie.Need-resolve-address-requires
-resolve-address-requires c κs = search needs
-
-enum-told : tie.Need-enum-told
-enum-told c = search needs
-
-enum-known-resolution : tie.Need-enum-known-resolution
-enum-known-resolution c = search needs
-
-enum-told-2 : tie.Need-enum-told-2
-enum-told-2 c = search needs
-
-enum-known-led : tie.Need-enum-known-led
-enum-known-led c = search needs
-
-digit-requires : tie.Need-digit-requires
-digit-requires c κs = search needs
-
 returns : tie.Need-returns
 returns c =
     let s = c .before .before in
@@ -41,13 +23,5 @@ returns-3 c =
 pub answer-cell-spec : {M : Type 1} → statement M
 answer-cell-spec =
     tie.close
-    (tie.spec
-    resolve-address-requires
-    enum-told
-    enum-known-resolution
-    enum-told-2
-    enum-known-led
-    digit-requires
-    returns
-    returns-2
-    returns-3)
+    (tie.spec (λ c κs. search needs) (λ c. search needs) (λ c. search needs) (λ c. search needs) (λ c. search needs)
+    (λ c κs. search needs) returns returns-2 returns-3)

@@ -54,23 +54,14 @@ column-address-requires-2 c κs =
     let p = c .before .before .before .before .pre in
     (omega (arith, root (c .before), p .0 .drawable .climbable .size), omega (arith, p .1))
 
-enum-told : tie.Need-enum-told
-enum-told c = search needs
-
 address-cell-requires : tie.Need-address-cell-requires
 address-cell-requires c κs =
     let s = c .before .before .before .before in
     let p = s .before .before .before .pre in
     (omega (arith, root s, p .0 .drawable .climbable .size), p .1)
 
-enum-told-2 : tie.Need-enum-told-2
-enum-told-2 c = search needs
-
 ruler-cell-requires : tie.Need-ruler-cell-requires
 ruler-cell-requires c κs = tt
-
-enum-known-row : tie.Need-enum-known-row
-enum-known-row c = search needs
 
 region-cell-requires : tie.Need-region-cell-requires
 region-cell-requires c κs =
@@ -78,9 +69,6 @@ region-cell-requires c κs =
     let p = s .before .before .before .before .pre in
     let h : c .before .row .given .0 .0 < theMap (s .before) .count = rw (c .before .row .given .1) at (p .0 .within) in
     (p .0 .drawable, h, omega (arith, address s, column-small _ (s .before .before .before .before .args .c) (p .0 .drawable .climbable .size) (omega (arith, p .1))))
-
-enum-told-3 : tie.Need-enum-told-3
-enum-told-3 c = search needs
 
 answer-cell-requires : tie.Need-answer-cell-requires
 answer-cell-requires c κs = c .before .before .before .before .before .before .before .pre .0 .accepted
@@ -106,22 +94,6 @@ returns-4 c =
 pub cell-spec : {M : Type 1} → statement M
 cell-spec =
     tie.close
-    (tie.spec
-    region-count-requires
-    sub-last
-    region-at-requires
-    column-address-requires
-    add-column-address
-    column-address-requires-2
-    enum-told
-    address-cell-requires
-    enum-told-2
-    ruler-cell-requires
-    enum-known-row
-    region-cell-requires
-    enum-told-3
-    answer-cell-requires
-    returns
-    returns-2
-    returns-3
-    returns-4)
+    (tie.spec region-count-requires sub-last region-at-requires column-address-requires add-column-address column-address-requires-2
+    (λ c. search needs) address-cell-requires (λ c. search needs) ruler-cell-requires (λ c. search needs) region-cell-requires
+    (λ c. search needs) answer-cell-requires returns returns-2 returns-3 returns-4)

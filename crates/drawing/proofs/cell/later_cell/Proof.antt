@@ -4,18 +4,6 @@ use borrow.Author.Needs.{needs}
 use Rattle.drawing.proofs.cell.later_cell.Statement.{statement}
 use Rattle.drawing.proofs.cell.later_cell.Tie as tie
 
-locate-requires : tie.Need-locate-requires
-locate-requires c κs = search needs
-
-enum-told : tie.Need-enum-told
-enum-told c = search needs
-
-enum-told-2 : tie.Need-enum-told-2
-enum-told-2 c = search needs
-
-enum-told-3 : tie.Need-enum-told-3
-enum-told-3 c = search needs
-
 returns : tie.Need-returns
 returns c = rw (sym (c .before .before .locate .ensures) ∙ c .enum-told .given .1)
 
@@ -28,4 +16,4 @@ returns-3 c = rw (sym (c .before .before .locate .ensures) ∙ c .enum-told3 .gi
 pub later-cell-spec : {M : Type 1} → statement M
 later-cell-spec =
     tie.close
-    (tie.spec locate-requires enum-told enum-told-2 enum-told-3 returns returns-2 returns-3)
+    (tie.spec (λ c κs. search needs) (λ c. search needs) (λ c. search needs) (λ c. search needs) returns returns-2 returns-3)

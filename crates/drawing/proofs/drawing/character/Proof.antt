@@ -5,15 +5,9 @@ use borrow.Author.Needs.{needs}
 use Rattle.drawing.proofs.drawing.character.Statement.{statement}
 use Rattle.drawing.proofs.drawing.character.Tie as tie
 
-label-requires : tie.Need-label-requires
-label-requires c κs = search needs
-
 returns : tie.Need-returns
 unfolding character
 returns c = rw (lt-ltb _ _ (c .before .if1 .taken)) (c .label .ensures)
-
-cell-requires : tie.Need-cell-requires
-cell-requires c κs = search needs
 
 returns-2 : tie.Need-returns-2
 unfolding character
@@ -28,5 +22,4 @@ unfolding character
 returns-4 c = simp (le-ltb _ _ (c .before .before .if1 .left), le-ltb _ _ (c .before .if2 .left), le-ltb _ _ (c .if3 .left))
 
 pub character-spec : {M : Type 1} → statement M
-character-spec =
-    tie.close (tie.spec label-requires returns cell-requires returns-2 returns-3 returns-4)
+character-spec = tie.close (tie.spec (λ c κs. search needs) returns (λ c κs. search needs) returns-2 returns-3 returns-4)

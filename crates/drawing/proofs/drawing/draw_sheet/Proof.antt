@@ -20,32 +20,11 @@ told c =
     let f = c .before .before .read-sheet in
     read-as _ _ _ _ (f .result) _ (length-replicate {A = ℕ} 289 0) (c .before .map2 .given) (f .ensures .0) (f .ensures .1) (c .number-of .ensures)
 
-slice-aggregate-read-sheet : tie.Need-slice-aggregate-read-sheet
-slice-aggregate-read-sheet c = search needs
-
-read-sheet-requires : tie.Need-read-sheet-requires
-read-sheet-requires c κs = search needs
-
-number-of-requires : tie.Need-number-of-requires
-number-of-requires c κs = search needs
-
-refuse-requires : tie.Need-refuse-requires
-refuse-requires c κs = search needs
-
-same-length : tie.Need-same-length
-same-length c = search needs
-
 returns : tie.Need-returns
 unfolding drawingText
 returns c =
     let r = c .before .before .refuse .ensures in
     (sheet-refused (told (c .before .before .before .before .before)) mapText (c .before .before .before .before .if1 .taken) (r .0), omega (arith, r .1))
-
-slice-aggregate-put-rows : tie.Need-slice-aggregate-put-rows
-slice-aggregate-put-rows c = search needs
-
-slice-aggregate-put-rows-2 : tie.Need-slice-aggregate-put-rows-2
-slice-aggregate-put-rows-2 c = search needs
 
 put-rows-requires : tie.Need-put-rows-requires
 put-rows-requires c κs =
@@ -53,17 +32,8 @@ put-rows-requires c κs =
     let z = c .before .before .if1 .left in
     (subst (λ (x : RegionMap). Accepted x (c .before .before .before .before .before .before .before .before .before .args .memory-length)) (sym (m .map z)) (sheet-accepted _ _ (m .said .passed z)), length-replicate {A = ℕ} 2765 0)
 
-array-share-prefix-text : tie.Need-array-share-prefix-text
-array-share-prefix-text c = search needs
-
 slice-aggregate-fill : tie.Need-slice-aggregate-fill
 slice-aggregate-fill c = sym (length-take-le _ _ (omega (arith, puts-size (c .before .before .put-rows .ensures .0), c .before .before .put-rows .ensures .1, length-replicate {A = ℕ} 2765 0)))
-
-fill-requires : tie.Need-fill-requires
-fill-requires c κs = search needs
-
-same-length-2 : tie.Need-same-length-2
-same-length-2 c = search needs
 
 returns-2 : tie.Need-returns-2
 unfolding drawingText
@@ -75,18 +45,6 @@ returns-2 c =
 pub draw-sheet-spec : {M : Type 1} → statement M
 draw-sheet-spec =
     tie.close
-    (tie.spec
-    slice-aggregate-read-sheet
-    read-sheet-requires
-    number-of-requires
-    refuse-requires
-    same-length
-    returns
-    slice-aggregate-put-rows
-    slice-aggregate-put-rows-2
-    put-rows-requires
-    array-share-prefix-text
-    slice-aggregate-fill
-    fill-requires
-    same-length-2
-    returns-2)
+    (tie.spec (λ c. search needs) (λ c κs. search needs) (λ c κs. search needs) (λ c κs. search needs) (λ c. search needs) returns
+    (λ c. search needs) (λ c. search needs) put-rows-requires (λ c. search needs) slice-aggregate-fill (λ c κs. search needs)
+    (λ c. search needs) returns-2)

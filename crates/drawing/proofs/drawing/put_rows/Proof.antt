@@ -54,9 +54,6 @@ put-row-requires c κs =
 add-w : tie.Need-add-w Inv-loop μ-loop
 add-w c = omega (arith, few (c .before .before .before .before .before .before .before), c .before .before .before .before .before .loop-test .taken)
 
-loop-less : tie.Need-loop-less Inv-loop μ-loop
-loop-less c = search needs
-
 loop-again : tie.Need-loop-again Inv-loop μ-loop
 loop-again c =
     let l = c .before .before .before .before .before .before .loop in
@@ -83,18 +80,5 @@ returns c =
 pub put-rows-spec : {M : Type 1} → statement M
 put-rows-spec =
     tie.close
-    (tie.spec
-    Inv-loop
-    μ-loop
-    region-count-requires
-    add-rows
-    loop-holds
-    row-at-requires
-    mul-put-row
-    put-row-requires
-    add-w
-    loop-less
-    loop-again
-    mul-result
-    same-length
-    returns)
+    (tie.spec Inv-loop μ-loop region-count-requires add-rows loop-holds row-at-requires mul-put-row put-row-requires add-w
+    (λ c. search needs) loop-again mul-result same-length returns)

@@ -6,9 +6,6 @@ use borrow.Author.Needs.{needs}
 use Rattle.drawing.proofs.label.letter.Statement.{statement}
 use Rattle.drawing.proofs.label.letter.Tie as tie
 
-shared-slice-read-result : tie.Need-shared-slice-read-result
-shared-slice-read-result c = search needs
-
 returns : tie.Need-returns
 returns c = getD-any (c .before .before .args .word .now) (c .before .before .args .i) 0 0x20 (c .before .if1 .taken)
 
@@ -16,4 +13,4 @@ returns-2 : tie.Need-returns-2
 returns-2 c = sym (List·getD-eq-default (c .before .args .word .now) 0x20 (c .if1 .left))
 
 pub letter-spec : {M : Type 1} → statement M
-letter-spec = tie.close (tie.spec shared-slice-read-result returns returns-2)
+letter-spec = tie.close (tie.spec (λ c. search needs) returns returns-2)

@@ -6,9 +6,6 @@ use borrow.Author.Needs.{needs}
 use Rattle.drawing.proofs.label.region_label.Statement.{statement}
 use Rattle.drawing.proofs.label.region_label.Tie as tie
 
-digit-requires : tie.Need-digit-requires
-digit-requires c κs = search needs
-
 returns : tie.Need-returns
 unfolding regionLabel
 returns c = rw (eq-eqb _ _ (c .before .if1 .taken)) (c .digit .ensures)
@@ -17,17 +14,9 @@ returns-2 : tie.Need-returns-2
 unfolding regionLabel
 returns-2 c = simp (ne-eqb _ _ (c .before .if1 .left), lt-ltb _ _ (c .if2 .taken))
 
-region-at-requires : tie.Need-region-at-requires
-region-at-requires c κs = search needs
-
-kind-letter-requires : tie.Need-kind-letter-requires
-kind-letter-requires c κs = search needs
-
 returns-3 : tie.Need-returns-3
 unfolding regionLabel
 returns-3 c = rw (sym (c .before .region-at .ensures), ne-eqb _ _ (c .before .before .before .if1 .left), le-ltb _ _ (c .before .before .if2 .left)) (c .kind-letter .ensures)
 
 pub region-label-spec : {M : Type 1} → statement M
-region-label-spec =
-    tie.close
-    (tie.spec digit-requires returns returns-2 region-at-requires kind-letter-requires returns-3)
+region-label-spec = tie.close (tie.spec (λ c κs. search needs) returns returns-2 (λ c κs. search needs) (λ c κs. search needs) returns-3)

@@ -6,15 +6,6 @@ use borrow.Author.Needs.{needs}
 use Rattle.drawing.proofs.position.enter.Statement.{statement}
 use Rattle.drawing.proofs.position.enter.Tie as tie
 
-past-requires : tie.Need-past-requires
-past-requires c κs = search needs
-
-past-requires-2 : tie.Need-past-requires-2
-past-requires-2 c κs = search needs
-
-least-requires : tie.Need-least-requires
-least-requires c κs = search needs
-
 returns : tie.Need-returns
 returns c =
     let s = c .before in
@@ -26,5 +17,4 @@ returns-2 c =
     entered-not _ _ _ _ _ (s .before .before .past .ensures) (s .least .ensures ∙ ap₂ min (s .before .past2 .ensures) refl) (c .if1 .left)
 
 pub enter-spec : {M : Type 1} → statement M
-enter-spec =
-    tie.close (tie.spec past-requires past-requires-2 least-requires returns returns-2)
+enter-spec = tie.close (tie.spec (λ c κs. search needs) (λ c κs. search needs) (λ c κs. search needs) returns returns-2)

@@ -4,12 +4,6 @@ use borrow.Author.Needs.{needs}
 use Rattle.listing.proofs.listing.fill.Statement.{statement}
 use Rattle.listing.proofs.listing.fill.Tie as tie
 
-put-all-requires : tie.Need-put-all-requires
-put-all-requires c κs = search needs
-
-same-length : tie.Need-same-length
-same-length c = search needs
-
 returns : tie.Need-returns
 returns c = fills-room (c .before .before .before .before .if1 .taken) (c .before .before .put-all .ensures)
 
@@ -17,4 +11,4 @@ returns-2 : tie.Need-returns-2
 returns-2 c = fills-none (c .if1 .left)
 
 pub fill-spec : {M : Type 1} → statement M
-fill-spec = tie.close (tie.spec put-all-requires same-length returns returns-2)
+fill-spec = tie.close (tie.spec (λ c κs. search needs) (λ c. search needs) returns returns-2)

@@ -18,49 +18,19 @@ told c =
     let f = c .before .before .flatten in
     made-as _ _ _ _ (f .result) _ (length-replicate {A = ℕ} 1537 0) (c .before .flat2 .given) (f .ensures .0) (f .ensures .1) (c .number-of .ensures)
 
-slice-aggregate-flatten : tie.Need-slice-aggregate-flatten
-slice-aggregate-flatten c = search needs
-
-flatten-requires : tie.Need-flatten-requires
-flatten-requires c κs = search needs
-
-number-of-requires : tie.Need-number-of-requires
-number-of-requires c κs = search needs
-
-refuse-requires : tie.Need-refuse-requires
-refuse-requires c κs = search needs
-
-same-length : tie.Need-same-length
-same-length c = search needs
-
 returns : tie.Need-returns
 returns c =
     let m = told (c .before .before .before .before .before) in
     let r = c .before .before .refuse .ensures in
     (view-refused m (c .before .before .before .before .if1 .taken) (r .0), omega (arith, r .1))
 
-slice-aggregate-put-ranges : tie.Need-slice-aggregate-put-ranges
-slice-aggregate-put-ranges c = search needs
-
-slice-aggregate-put-ranges-2 : tie.Need-slice-aggregate-put-ranges-2
-slice-aggregate-put-ranges-2 c = search needs
-
 put-ranges-requires : tie.Need-put-ranges-requires
 put-ranges-requires c κs =
     let m = told (c .before .before .before) in
     (c .before .before .before .before .flat2 .given, m .few ((c .before .before .if1 .left)), length-replicate {A = ℕ} 20480 0)
 
-array-share-prefix-text : tie.Need-array-share-prefix-text
-array-share-prefix-text c = search needs
-
 slice-aggregate-fill : tie.Need-slice-aggregate-fill
 slice-aggregate-fill c = sym (length-take-le _ _ (omega (arith, puts-size (c .before .before .put-ranges .ensures .0), c .before .before .put-ranges .ensures .1, length-replicate {A = ℕ} 20480 0)))
-
-fill-requires : tie.Need-fill-requires
-fill-requires c κs = search needs
-
-same-length-2 : tie.Need-same-length-2
-same-length-2 c = search needs
 
 returns-2 : tie.Need-returns-2
 returns-2 c =
@@ -73,18 +43,6 @@ returns-2 c =
 pub list-map-spec : {M : Type 1} → statement M
 list-map-spec =
     tie.close
-    (tie.spec
-    slice-aggregate-flatten
-    flatten-requires
-    number-of-requires
-    refuse-requires
-    same-length
-    returns
-    slice-aggregate-put-ranges
-    slice-aggregate-put-ranges-2
-    put-ranges-requires
-    array-share-prefix-text
-    slice-aggregate-fill
-    fill-requires
-    same-length-2
-    returns-2)
+    (tie.spec (λ c. search needs) (λ c κs. search needs) (λ c κs. search needs) (λ c κs. search needs) (λ c. search needs) returns
+    (λ c. search needs) (λ c. search needs) put-ranges-requires (λ c. search needs) slice-aggregate-fill (λ c κs. search needs)
+    (λ c. search needs) returns-2)

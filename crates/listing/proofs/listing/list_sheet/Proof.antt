@@ -16,36 +16,12 @@ told c =
     let f = c .before .before .read-sheet in
     read-as _ _ _ _ (f .result) _ (length-replicate {A = ℕ} 289 0) (c .before .map2 .given) (f .ensures .0) (f .ensures .1) (c .number-of .ensures)
 
-slice-aggregate-read-sheet : tie.Need-slice-aggregate-read-sheet
-slice-aggregate-read-sheet c = search needs
-
-read-sheet-requires : tie.Need-read-sheet-requires
-read-sheet-requires c κs = search needs
-
-number-of-requires : tie.Need-number-of-requires
-number-of-requires c κs = search needs
-
-refuse-requires : tie.Need-refuse-requires
-refuse-requires c κs = search needs
-
-same-length : tie.Need-same-length
-same-length c = search needs
-
 returns : tie.Need-returns
 unfolding listingText
 returns c =
     let m = told (c .before .before .before .before .before) in
     let r = c .before .before .refuse .ensures in
     (sheet-refused m (mapText _) (c .before .before .before .before .if1 .taken) (r .0), omega (arith, r .1))
-
-slice-aggregate-list-map : tie.Need-slice-aggregate-list-map
-slice-aggregate-list-map c = search needs
-
-list-map-requires : tie.Need-list-map-requires
-list-map-requires c κs = search needs
-
-same-length-2 : tie.Need-same-length-2
-same-length-2 c = search needs
 
 returns-2 : tie.Need-returns-2
 unfolding listingText
@@ -58,14 +34,5 @@ returns-2 c =
 pub list-sheet-spec : {M : Type 1} → statement M
 list-sheet-spec =
     tie.close
-    (tie.spec
-    slice-aggregate-read-sheet
-    read-sheet-requires
-    number-of-requires
-    refuse-requires
-    same-length
-    returns
-    slice-aggregate-list-map
-    list-map-requires
-    same-length-2
-    returns-2)
+    (tie.spec (λ c. search needs) (λ c κs. search needs) (λ c κs. search needs) (λ c κs. search needs) (λ c. search needs) returns
+    (λ c. search needs) (λ c κs. search needs) (λ c. search needs) returns-2)

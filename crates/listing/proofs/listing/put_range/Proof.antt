@@ -6,9 +6,6 @@ use borrow.Author.Needs.{needs}
 use Rattle.listing.proofs.listing.put_range.Statement.{statement}
 use Rattle.listing.proofs.listing.put_range.Tie as tie
 
-put-hex-requires : tie.Need-put-hex-requires
-put-hex-requires c κs = search needs
-
 put-hex-requires-2 : tie.Need-put-hex-requires-2
 put-hex-requires-2 c κs =
     let a = c .before .before .before .put-hex .ensures in
@@ -27,9 +24,6 @@ put-hex-requires-3 c κs =
     let d = c .before .before .before .put-decimal .ensures in
     omega (arith, a .1, puts-size (a .0), b .1, puts-size (b .0), d .1, puts-size (d .0), c .before .before .before .before .before .before .before .before .before .before .before .before .before .before .pre)
 
-same-length : tie.Need-same-length
-same-length c = search needs
-
 returns : tie.Need-returns
 unfolding rangeText
 returns c =
@@ -42,10 +36,4 @@ returns c =
 pub put-range-spec : {M : Type 1} → statement M
 put-range-spec =
     tie.close
-    (tie.spec
-    put-hex-requires
-    put-hex-requires-2
-    put-decimal-requires
-    put-hex-requires-3
-    same-length
-    returns)
+    (tie.spec (λ c κs. search needs) put-hex-requires-2 put-decimal-requires put-hex-requires-3 (λ c. search needs) returns)

@@ -19,26 +19,14 @@ Inv-loop view text₀ count at₀ k₀ text at k = (k ≤ count) × (at ≤ 80 *
 abbrev μ-loop : tie.MeasureT-loop
 μ-loop view text₀ count at₀ k₀ text at k = count - k
 
-count-of-requires : tie.Need-count-of-requires Inv-loop μ-loop
-count-of-requires c κs = search needs
-
 loop-holds : tie.Need-loop-holds Inv-loop μ-loop
 loop-holds c = (omega arith, omega arith, lines-none (viewOf (c .before .before .before .args .view .now)) _)
-
-range-at-requires : tie.Need-range-at-requires Inv-loop μ-loop
-range-at-requires c κs = search needs
 
 put-range-requires : tie.Need-put-range-requires Inv-loop μ-loop
 put-range-requires c κs =
     let i = c .before .before .before .loop .inv in
     let p = c .before .before .before .before .before .before .before .pre in
     omega (arith, i .1, c .before .before .loop-test .taken, c .before .before .before .before .count-of .ensures, p .1, p .2, puts-size (i .2))
-
-add-k : tie.Need-add-k Inv-loop μ-loop
-add-k c = search needs
-
-loop-less : tie.Need-loop-less Inv-loop μ-loop
-loop-less c = search needs
 
 loop-again : tie.Need-loop-again Inv-loop μ-loop
 loop-again c =
@@ -62,15 +50,5 @@ returns c =
 pub put-ranges-spec : {M : Type 1} → statement M
 put-ranges-spec =
     tie.close
-    (tie.spec
-    Inv-loop
-    μ-loop
-    count-of-requires
-    loop-holds
-    range-at-requires
-    put-range-requires
-    add-k
-    loop-less
-    loop-again
-    same-length
-    returns)
+    (tie.spec Inv-loop μ-loop (λ c κs. search needs) loop-holds (λ c κs. search needs) put-range-requires (λ c. search needs)
+    (λ c. search needs) loop-again same-length returns)

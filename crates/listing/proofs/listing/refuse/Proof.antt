@@ -17,15 +17,6 @@ small c = omega (arith, c .before .put-decimal .ensures .1, c .before .before .b
 room : (c : tie.After-text4) → c .before .put-decimal .result ≤ length (c .before .put-decimal .last .0)
 room c = omega (arith, small c, puts-size (c .before .put-decimal .ensures .0), puts-size (c .before .before .before .before .put-all .ensures))
 
-slice-aggregate-put-all : tie.Need-slice-aggregate-put-all
-slice-aggregate-put-all c = search needs
-
-slice-aggregate-put-all-2 : tie.Need-slice-aggregate-put-all-2
-slice-aggregate-put-all-2 c = search needs
-
-put-all-requires : tie.Need-put-all-requires
-put-all-requires c κs = search needs
-
 slice-aggregate-put-decimal : tie.Need-slice-aggregate-put-decimal
 slice-aggregate-put-decimal c = sym (puts-size (c .before .before .put-all .ensures))
 
@@ -38,12 +29,6 @@ array-share-prefix-text c = room c
 slice-aggregate-fill : tie.Need-slice-aggregate-fill
 slice-aggregate-fill c = sym (length-take-le _ _ (room (c .before)))
 
-fill-requires : tie.Need-fill-requires
-fill-requires c κs = search needs
-
-same-length : tie.Need-same-length
-same-length c = search needs
-
 returns : tie.Need-returns
 unfolding refusalText
 returns c =
@@ -55,14 +40,5 @@ returns c =
 pub refuse-spec : {M : Type 1} → statement M
 refuse-spec =
     tie.close
-    (tie.spec
-    slice-aggregate-put-all
-    slice-aggregate-put-all-2
-    put-all-requires
-    slice-aggregate-put-decimal
-    put-decimal-requires
-    array-share-prefix-text
-    slice-aggregate-fill
-    fill-requires
-    same-length
-    returns)
+    (tie.spec (λ c. search needs) (λ c. search needs) (λ c κs. search needs) slice-aggregate-put-decimal put-decimal-requires
+    array-share-prefix-text slice-aggregate-fill (λ c κs. search needs) (λ c. search needs) returns)

@@ -10,20 +10,8 @@ use Rattle.listing.proofs.text.put_decimal.Tie as tie
 bound : (c : tie.After-decimal) → c .decimal .result ≤ 20
 bound c = fewest-bound 10 20 (c .before .before .before .args .n) (c .decimal .result) (omega arith) (omega arith) (omega (arith, c .before .before .before .fits .n)) (c .decimal .ensures .1 .0)
 
-decimal-requires : tie.Need-decimal-requires
-decimal-requires c κs = search needs
-
-array-share-prefix-digits : tie.Need-array-share-prefix-digits
-array-share-prefix-digits c = search needs
-
-slice-aggregate-put-word : tie.Need-slice-aggregate-put-word
-slice-aggregate-put-word c = search needs
-
 put-word-requires : tie.Need-put-word-requires
 put-word-requires c κs = omega (arith, bound (c .before .before), c .before .before .decimal .ensures .0 .1, c .before .before .before .before .before .pre)
-
-same-length : tie.Need-same-length
-same-length c = search needs
 
 returns : tie.Need-returns
 returns c =
@@ -33,10 +21,4 @@ returns c =
 pub put-decimal-spec : {M : Type 1} → statement M
 put-decimal-spec =
     tie.close
-    (tie.spec
-    decimal-requires
-    array-share-prefix-digits
-    slice-aggregate-put-word
-    put-word-requires
-    same-length
-    returns)
+    (tie.spec (λ c κs. search needs) (λ c. search needs) (λ c. search needs) put-word-requires (λ c. search needs) returns)

@@ -10,20 +10,8 @@ use Rattle.listing.proofs.text.put_hex.Tie as tie
 bound : (c : tie.After-hex) → c .hex .result ≤ 16
 bound c = fewest-bound 16 16 (c .before .before .before .args .n) (c .hex .result) (omega arith) (omega arith) (omega (arith, c .before .before .before .fits .n)) (c .hex .ensures .1 .0)
 
-hex-requires : tie.Need-hex-requires
-hex-requires c κs = search needs
-
-array-share-prefix-digits : tie.Need-array-share-prefix-digits
-array-share-prefix-digits c = search needs
-
-slice-aggregate-put-word : tie.Need-slice-aggregate-put-word
-slice-aggregate-put-word c = search needs
-
 put-word-requires : tie.Need-put-word-requires
 put-word-requires c κs = omega (arith, bound (c .before .before), c .before .before .hex .ensures .0 .1, c .before .before .before .before .before .pre)
-
-same-length : tie.Need-same-length
-same-length c = search needs
 
 returns : tie.Need-returns
 returns c =
@@ -33,10 +21,4 @@ returns c =
 pub put-hex-spec : {M : Type 1} → statement M
 put-hex-spec =
     tie.close
-    (tie.spec
-    hex-requires
-    array-share-prefix-digits
-    slice-aggregate-put-word
-    put-word-requires
-    same-length
-    returns)
+    (tie.spec (λ c κs. search needs) (λ c. search needs) (λ c. search needs) put-word-requires (λ c. search needs) returns)

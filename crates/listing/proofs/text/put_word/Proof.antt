@@ -6,21 +6,11 @@ use borrow.Author.Needs.{needs}
 use Rattle.listing.proofs.text.put_word.Statement.{statement}
 use Rattle.listing.proofs.text.put_word.Tie as tie
 
-put-all-requires : tie.Need-put-all-requires
-put-all-requires c κs = search needs
-
 slice-write-text : tie.Need-slice-write-text
 slice-write-text c = omega (arith, c .before .before .put-all .ensures .past, puts-size (c .before .before .put-all .ensures), c .before .before .before .before .before .before .pre)
-
-add-result : tie.Need-add-result
-add-result c = search needs
-
-same-length : tie.Need-same-length
-same-length c = search needs
 
 returns : tie.Need-returns
 returns c = puts-then (c .before .before .put-all .ensures) (record { past = refl; bytes = refl })
 
 pub put-word-spec : {M : Type 1} → statement M
-put-word-spec =
-    tie.close (tie.spec put-all-requires slice-write-text add-result same-length returns)
+put-word-spec = tie.close (tie.spec (λ c κs. search needs) slice-write-text (λ c. search needs) (λ c. search needs) returns)

@@ -5,11 +5,8 @@ use Rattle.map_records.proofs.WordLaws.{count-words}
 use Rattle.map_records.proofs.words.count_of.Statement.{statement}
 use Rattle.map_records.proofs.words.count_of.Tie as tie
 
-shared-slice-read-result : tie.Need-shared-slice-read-result
-shared-slice-read-result c = search needs
-
 returns : tie.Need-returns
 returns c = sym (count-words (c .before .args .view .now) (c .before .pre))
 
 pub count-of-spec : {M : Type 1} → statement M
-count-of-spec = tie.close (tie.spec shared-slice-read-result returns)
+count-of-spec = tie.close (tie.spec (λ c. search needs) returns)

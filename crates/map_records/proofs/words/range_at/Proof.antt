@@ -5,19 +5,10 @@ use Rattle.map_records.proofs.WordLaws.{range-words}
 use Rattle.map_records.proofs.words.range_at.Statement.{statement}
 use Rattle.map_records.proofs.words.range_at.Tie as tie
 
-mul-range-from : tie.Need-mul-range-from
-mul-range-from c = search needs
-
-add-range-from : tie.Need-add-range-from
-add-range-from c = search needs
-
-range-from-requires : tie.Need-range-from-requires
-range-from-requires c κs = search needs
-
 returns : tie.Need-returns
 returns c =
     let s = c .before .before in
     c .range-from .ensures ∙ sym (range-words (s .args .view .now) (s .pre .0) (s .args .k) (s .pre .1))
 
 pub range-at-spec : {M : Type 1} → statement M
-range-at-spec = tie.close (tie.spec mul-range-from add-range-from range-from-requires returns)
+range-at-spec = tie.close (tie.spec (λ c. search needs) (λ c. search needs) (λ c κs. search needs) returns)

@@ -5,19 +5,10 @@ use Rattle.map_records.proofs.WordLaws.{region-words}
 use Rattle.map_records.proofs.words.region_at.Statement.{statement}
 use Rattle.map_records.proofs.words.region_at.Tie as tie
 
-mul-region-from : tie.Need-mul-region-from
-mul-region-from c = search needs
-
-add-region-from : tie.Need-add-region-from
-add-region-from c = search needs
-
-region-from-requires : tie.Need-region-from-requires
-region-from-requires c κs = search needs
-
 returns : tie.Need-returns
 returns c =
     let s = c .before .before in
     c .region-from .ensures ∙ sym (region-words (s .args .map .now) (s .pre .0) (s .args .n) (s .pre .1))
 
 pub region-at-spec : {M : Type 1} → statement M
-region-at-spec = tie.close (tie.spec mul-region-from add-region-from region-from-requires returns)
+region-at-spec = tie.close (tie.spec (λ c. search needs) (λ c. search needs) (λ c κs. search needs) returns)

@@ -5,11 +5,8 @@ use Rattle.map_records.proofs.WordLaws.{region-count-words}
 use Rattle.map_records.proofs.words.region_count.Statement.{statement}
 use Rattle.map_records.proofs.words.region_count.Tie as tie
 
-shared-slice-read-result : tie.Need-shared-slice-read-result
-shared-slice-read-result c = search needs
-
 returns : tie.Need-returns
 returns c = sym (region-count-words (c .before .args .map .now) (c .before .pre))
 
 pub region-count-spec : {M : Type 1} → statement M
-region-count-spec = tie.close (tie.spec shared-slice-read-result returns)
+region-count-spec = tie.close (tie.spec (λ c. search needs) returns)

@@ -29,17 +29,11 @@ counted c =
 returns : tie.Need-returns
 returns c = judged-other (c .before .before .args .map .now) (c .if1 .taken) (c .before .before .args .memory-length)
 
-region-count-requires : tie.Need-region-count-requires
-region-count-requires c κs = search needs
-
 returns-2 : tie.Need-returns-2
 returns-2 c = judged-count _ _ (subst (λ (n : ℕ). countFault n ≡ true) (c .before .region-count .ensures) (c .if2 .taken))
 
 check-regions-requires : tie.Need-check-regions-requires
 check-regions-requires c κs = counted c
-
-accepts-requires : tie.Need-accepts-requires
-accepts-requires c κs = search needs
 
 check-pairs-requires : tie.Need-check-pairs-requires
 check-pairs-requires c κs = counted (c .before .before .before)
@@ -63,12 +57,5 @@ returns-4 c =
 pub check-map-spec : {M : Type 1} → statement M
 check-map-spec =
     tie.close
-    (tie.spec
-    returns
-    region-count-requires
-    returns-2
-    check-regions-requires
-    accepts-requires
-    check-pairs-requires
-    returns-3
+    (tie.spec returns (λ c κs. search needs) returns-2 check-regions-requires (λ c κs. search needs) check-pairs-requires returns-3
     returns-4)

@@ -21,57 +21,21 @@ passed-3 c = pair-passed _ _ _ (c .before .before .first-pair3 .ensures) (c .enu
 passed-4 : (c : tie.After-enum-told4) → firstPair 11 (clash pair.Siblings (mapOf (c .before .before .before .before .before .before .before .before .before .before .before .before .before .args .map .now))) (mapOf (c .before .before .before .before .before .before .before .before .before .before .before .before .before .args .map .now) .count) ≡ accepted
 passed-4 c = pair-passed _ _ _ (c .before .before .first-pair4 .ensures) (c .enum-told4 .given .1) 11
 
-first-pair-requires : tie.Need-first-pair-requires
-first-pair-requires c κs = search needs
-
-enum-known-i : tie.Need-enum-known-i
-enum-known-i c = search needs
-
 returns : tie.Need-returns
 unfolding onPairs
 returns c = simp (pair-found _ _ _ _ _ (c .before .before .before .first-pair .ensures) (c .before .i .given .1) 8)
-
-enum-told : tie.Need-enum-told
-enum-told c = search needs
-
-first-pair-requires-2 : tie.Need-first-pair-requires-2
-first-pair-requires-2 c κs = search needs
-
-enum-known-i-2 : tie.Need-enum-known-i-2
-enum-known-i-2 c = search needs
 
 returns-2 : tie.Need-returns-2
 unfolding onPairs
 returns-2 c = simp (passed-1 (c .before .before .before .before), pair-found _ _ _ _ _ (c .before .before .before .first-pair2 .ensures) (c .before .i2 .given .1) 9)
 
-enum-told-2 : tie.Need-enum-told-2
-enum-told-2 c = search needs
-
-first-pair-requires-3 : tie.Need-first-pair-requires-3
-first-pair-requires-3 c κs = search needs
-
-enum-known-i-3 : tie.Need-enum-known-i-3
-enum-known-i-3 c = search needs
-
 returns-3 : tie.Need-returns-3
 unfolding onPairs
 returns-3 c = simp (passed-1 (c .before .before .before .before .before .before .before), passed-2 (c .before .before .before .before), pair-found _ _ _ _ _ (c .before .before .before .first-pair3 .ensures) (c .before .i3 .given .1) 10)
 
-enum-told-3 : tie.Need-enum-told-3
-enum-told-3 c = search needs
-
-first-pair-requires-4 : tie.Need-first-pair-requires-4
-first-pair-requires-4 c κs = search needs
-
-enum-known-i-4 : tie.Need-enum-known-i-4
-enum-known-i-4 c = search needs
-
 returns-4 : tie.Need-returns-4
 unfolding onPairs
 returns-4 c = simp (passed-1 (c .before .before .before .before .before .before .before .before .before .before), passed-2 (c .before .before .before .before .before .before .before), passed-3 (c .before .before .before .before), pair-found _ _ _ _ _ (c .before .before .before .first-pair4 .ensures) (c .before .i4 .given .1) 11)
-
-enum-told-4 : tie.Need-enum-told-4
-enum-told-4 c = search needs
 
 returns-5 : tie.Need-returns-5
 unfolding onPairs
@@ -80,21 +44,6 @@ returns-5 c = simp (passed-1 (c .before .before .before .before .before .before 
 pub check-pairs-spec : {M : Type 1} → statement M
 check-pairs-spec =
     tie.close
-    (tie.spec
-    first-pair-requires
-    enum-known-i
-    returns
-    enum-told
-    first-pair-requires-2
-    enum-known-i-2
-    returns-2
-    enum-told-2
-    first-pair-requires-3
-    enum-known-i-3
-    returns-3
-    enum-told-3
-    first-pair-requires-4
-    enum-known-i-4
-    returns-4
-    enum-told-4
-    returns-5)
+    (tie.spec (λ c κs. search needs) (λ c. search needs) returns (λ c. search needs) (λ c κs. search needs) (λ c. search needs) returns-2
+    (λ c. search needs) (λ c κs. search needs) (λ c. search needs) returns-3 (λ c. search needs) (λ c κs. search needs)
+    (λ c. search needs) returns-4 (λ c. search needs) returns-5)

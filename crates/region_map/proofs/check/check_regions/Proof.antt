@@ -21,57 +21,21 @@ passed-3 c = lowest-passed _ _ _ (c .before .before .lowest-fault3 .ensures) (c 
 passed-4 : (c : tie.After-enum-told4) → lowest 8 (fault node.Memory (mapOf (c .before .before .before .before .before .before .before .before .before .before .before .before .before .args .map .now)) (c .before .before .before .before .before .before .before .before .before .before .before .before .before .args .memory-length)) (mapOf (c .before .before .before .before .before .before .before .before .before .before .before .before .before .args .map .now) .count) ≡ accepted
 passed-4 c = lowest-passed _ _ _ (c .before .before .lowest-fault4 .ensures) (c .enum-told4 .given .1) 8
 
-lowest-fault-requires : tie.Need-lowest-fault-requires
-lowest-fault-requires c κs = search needs
-
-enum-known-n : tie.Need-enum-known-n
-enum-known-n c = search needs
-
 returns : tie.Need-returns
 unfolding onRegions
 returns c = simp (lowest-found _ _ _ _ (c .before .before .before .lowest-fault .ensures) (c .before .n .given .1) 4)
-
-enum-told : tie.Need-enum-told
-enum-told c = search needs
-
-lowest-fault-requires-2 : tie.Need-lowest-fault-requires-2
-lowest-fault-requires-2 c κs = search needs
-
-enum-known-n-2 : tie.Need-enum-known-n-2
-enum-known-n-2 c = search needs
 
 returns-2 : tie.Need-returns-2
 unfolding onRegions
 returns-2 c = simp (passed-1 (c .before .before .before .before), lowest-found _ _ _ _ (c .before .before .before .lowest-fault2 .ensures) (c .before .n2 .given .1) 6)
 
-enum-told-2 : tie.Need-enum-told-2
-enum-told-2 c = search needs
-
-lowest-fault-requires-3 : tie.Need-lowest-fault-requires-3
-lowest-fault-requires-3 c κs = search needs
-
-enum-known-n-3 : tie.Need-enum-known-n-3
-enum-known-n-3 c = search needs
-
 returns-3 : tie.Need-returns-3
 unfolding onRegions
 returns-3 c = simp (passed-1 (c .before .before .before .before .before .before .before), passed-2 (c .before .before .before .before), lowest-found _ _ _ _ (c .before .before .before .lowest-fault3 .ensures) (c .before .n3 .given .1) 7)
 
-enum-told-3 : tie.Need-enum-told-3
-enum-told-3 c = search needs
-
-lowest-fault-requires-4 : tie.Need-lowest-fault-requires-4
-lowest-fault-requires-4 c κs = search needs
-
-enum-known-n-4 : tie.Need-enum-known-n-4
-enum-known-n-4 c = search needs
-
 returns-4 : tie.Need-returns-4
 unfolding onRegions
 returns-4 c = simp (passed-1 (c .before .before .before .before .before .before .before .before .before .before), passed-2 (c .before .before .before .before .before .before .before), passed-3 (c .before .before .before .before), lowest-found _ _ _ _ (c .before .before .before .lowest-fault4 .ensures) (c .before .n4 .given .1) 8)
-
-enum-told-4 : tie.Need-enum-told-4
-enum-told-4 c = search needs
 
 returns-5 : tie.Need-returns-5
 unfolding onRegions
@@ -80,21 +44,6 @@ returns-5 c = simp (passed-1 (c .before .before .before .before .before .before 
 pub check-regions-spec : {M : Type 1} → statement M
 check-regions-spec =
     tie.close
-    (tie.spec
-    lowest-fault-requires
-    enum-known-n
-    returns
-    enum-told
-    lowest-fault-requires-2
-    enum-known-n-2
-    returns-2
-    enum-told-2
-    lowest-fault-requires-3
-    enum-known-n-3
-    returns-3
-    enum-told-3
-    lowest-fault-requires-4
-    enum-known-n-4
-    returns-4
-    enum-told-4
-    returns-5)
+    (tie.spec (λ c κs. search needs) (λ c. search needs) returns (λ c. search needs) (λ c κs. search needs) (λ c. search needs) returns-2
+    (λ c. search needs) (λ c κs. search needs) (λ c. search needs) returns-3 (λ c. search needs) (λ c κs. search needs)
+    (λ c. search needs) returns-4 (λ c. search needs) returns-5)

@@ -15,9 +15,6 @@ use Rattle.region_map.proofs.children.rank.Tie as tie
 region-at-requires : tie.Need-region-at-requires
 region-at-requires c κs = (c .before .pre .tree .words, omega (arith, c .before .pre .tree .walkable .count, c .before .pre .below))
 
-priority-of-requires : tie.Need-priority-of-requires
-priority-of-requires c κs = search needs
-
 mul-result : tie.Need-mul-result
 mul-result c =
     let s = c .before .before .before in
@@ -35,5 +32,4 @@ unfolding rank
 returns c = ap (λ (p : ℕ). p * 32 + c .before .before .before .args .c) (c .priority-of .ensures ∙ ap (λ (r : Region). priorityOf r) (c .before .region-at .ensures))
 
 pub rank-spec : {M : Type 1} → statement M
-rank-spec =
-    tie.close (tie.spec region-at-requires priority-of-requires mul-result add-result returns)
+rank-spec = tie.close (tie.spec region-at-requires (λ c κs. search needs) mul-result add-result returns)

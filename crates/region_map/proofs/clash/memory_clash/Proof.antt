@@ -3,11 +3,8 @@ use borrow.Author.Needs.{needs}
 use Rattle.region_map.proofs.clash.memory_clash.Statement.{statement}
 use Rattle.region_map.proofs.clash.memory_clash.Tie as tie
 
-share-requires : tie.Need-share-requires
-share-requires c κs = search needs
-
 returns : tie.Need-returns
 returns c = cc
 
 pub memory-clash-spec : {M : Type 1} → statement M
-memory-clash-spec = tie.close (tie.spec share-requires returns)
+memory-clash-spec = tie.close (tie.spec (λ c κs. search needs) returns)

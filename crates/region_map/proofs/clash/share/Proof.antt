@@ -4,9 +4,6 @@ use borrow.Author.Needs.{needs}
 use Rattle.region_map.proofs.clash.share.Statement.{statement}
 use Rattle.region_map.proofs.clash.share.Tie as tie
 
-sub-result : tie.Need-sub-result
-sub-result c = search needs
-
 returns : tie.Need-returns
 returns c = share-below _ _ _ _ (c .if1 .taken)
 
@@ -14,4 +11,4 @@ returns-2 : tie.Need-returns-2
 returns-2 c = share-above _ _ _ _ (c .if1 .left)
 
 pub share-spec : {M : Type 1} → statement M
-share-spec = tie.close (tie.spec sub-result returns returns-2)
+share-spec = tie.close (tie.spec (λ c. search needs) returns returns-2)

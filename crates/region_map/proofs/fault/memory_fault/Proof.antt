@@ -5,13 +5,10 @@ use Rattle.region_map.proofs.Bools.{not-leb}
 use Rattle.region_map.proofs.fault.memory_fault.Statement.{statement}
 use Rattle.region_map.proofs.fault.memory_fault.Tie as tie
 
-sum-within-requires : tie.Need-sum-within-requires
-sum-within-requires c κs = search needs
-
 returns : tie.Need-returns
 returns c =
     let a = c .before .before .before .args in
     rw (c .sum-within .ensures, not-leb (a .r .«memory_start» + a .r .size) (a .memory-length))
 
 pub memory-fault-spec : {M : Type 1} → statement M
-memory-fault-spec = tie.close (tie.spec sum-within-requires returns)
+memory-fault-spec = tie.close (tie.spec (λ c κs. search needs) returns)

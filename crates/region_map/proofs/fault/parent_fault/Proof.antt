@@ -9,29 +9,17 @@ use borrow.Author.Needs.{needs}
 use Rattle.region_map.proofs.fault.parent_fault.Statement.{statement}
 use Rattle.region_map.proofs.fault.parent_fault.Tie as tie
 
-region-at-requires : tie.Need-region-at-requires
-region-at-requires c κs = search needs
-
 returns : tie.Need-returns
 unfolding parentFault
 returns c = simp (sym (c .before .region-at .ensures), eq-eqb _ _ (c .if1 .taken))
-
-sub-parent : tie.Need-sub-parent
-sub-parent c = search needs
 
 returns-2 : tie.Need-returns-2
 unfolding parentFault
 returns-2 c = simp (sym (c .before .before .region-at .ensures), ne-eqb _ _ (c .before .if1 .left), le-leb _ _ (c .if2 .taken))
 
-region-count-requires : tie.Need-region-count-requires
-region-count-requires c κs = search needs
-
 returns-3 : tie.Need-returns-3
 unfolding parentFault
 returns-3 c = simp (sym (c .before .before .before .before .region-at .ensures), sym (c .before .region-count .ensures), ne-eqb _ _ (c .before .before .before .if1 .left), lt-leb _ _ (c .before .before .if2 .left), le-leb _ _ (c .if3 .taken))
-
-region-at-requires-2 : tie.Need-region-at-requires-2
-region-at-requires-2 c κs = search needs
 
 returns-4 : tie.Need-returns-4
 unfolding parentFault
@@ -42,12 +30,5 @@ returns-4 c =
 pub parent-fault-spec : {M : Type 1} → statement M
 parent-fault-spec =
     tie.close
-    (tie.spec
-    region-at-requires
-    returns
-    sub-parent
-    returns-2
-    region-count-requires
-    returns-3
-    region-at-requires-2
+    (tie.spec (λ c κs. search needs) returns (λ c. search needs) returns-2 (λ c κs. search needs) returns-3 (λ c κs. search needs)
     returns-4)

@@ -5,9 +5,6 @@ use borrow.Author.Needs.{needs}
 use Rattle.region_map.proofs.flat.backing_of.Statement.{statement}
 use Rattle.region_map.proofs.flat.backing_of.Tie as tie
 
-region-at-requires : tie.Need-region-at-requires
-region-at-requires c κs = search needs
-
 returns : tie.Need-returns
 returns c = simp (sym (c .before .region-at .ensures), eq-eqb _ _ (c .if1 .taken))
 
@@ -15,4 +12,4 @@ returns-2 : tie.Need-returns-2
 returns-2 c = simp (sym (c .before .region-at .ensures), ne-eqb _ _ (c .if1 .left))
 
 pub backing-of-spec : {M : Type 1} → statement M
-backing-of-spec = tie.close (tie.spec region-at-requires returns returns-2)
+backing-of-spec = tie.close (tie.spec (λ c κs. search needs) returns returns-2)

@@ -9,9 +9,6 @@ use Rattle.region_map.proofs.flat.goes_on.Tie as tie
 returns : tie.Need-returns
 returns c = sym (off-joins _ _ (λ j. omega (arith, j .next)))
 
-sub-if2 : tie.Need-sub-if2
-sub-if2 c = search needs
-
 returns-2 : tie.Need-returns-2
 returns-2 c = sym (off-joins _ _ (λ j. omega (arith, j .next)))
 
@@ -30,4 +27,4 @@ returns-5 c =
     (c .before .before .before .before .before .before .before .if3 .left) (c .before .before .before .before .if4 .left)
 
 pub goes-on-spec : {M : Type 1} → statement M
-goes-on-spec = tie.close (tie.spec returns sub-if2 returns-2 returns-3 returns-4 sub-result returns-5)
+goes-on-spec = tie.close (tie.spec returns (λ c. search needs) returns-2 returns-3 returns-4 sub-result returns-5)

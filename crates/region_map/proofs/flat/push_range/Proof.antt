@@ -46,12 +46,6 @@ added-here c =
     (sym (c .before .before .put-count .ensures ∙ ap (λ (x : List ℕ). set x 0 (n .result + 1)) (c .before .before .before .before .before .before .put-range2 .ensures)))
     (added-words (s .args .view .now) (s .args .r) (s .pre .0) (behind (c .before .before .before .before .before .before .before .before .before)) (n .result) (n .ensures) (omega (arith, c .before .before .before .before .before .before .before .before .if3 .left, n .ensures, s .pre .0 .few)))
 
-count-of-requires : tie.Need-count-of-requires
-count-of-requires c κs = search needs
-
-sub-k : tie.Need-sub-k
-sub-k c = search needs
-
 range-at-requires : tie.Need-range-at-requires
 range-at-requires c κs = (c .before .before .before .before .before .pre .0 .words, omega (arith, c .before .if1 .taken, c .before .before .count-of .ensures, c .before .before .before .before .before .pre .0 .few))
 
@@ -71,17 +65,11 @@ same-length c = grown-here c .words ∙ sym (c .before .before .before .before .
 returns : tie.Need-returns
 returns c = grown-here c
 
-same-length-2 : tie.Need-same-length-2
-same-length-2 c = search needs
-
 returns-2 : tie.Need-returns-2
 returns-2 c = refused-words (c .before .before .before .before .before .args .view .now) (c .before .before .before .before .before .args .r) (c .before .before .before .before .before .pre .0) (behind (c .before)) (sym (c .before .before .count-of .ensures) ∙ c .if3 .taken)
 
 put-range-requires-2 : tie.Need-put-range-requires-2
 put-range-requires-2 c κs = (c .before .before .before .before .before .before .pre .0 .words, omega (arith, c .before .if3 .left, c .before .before .before .count-of .ensures, c .before .before .before .before .before .before .pre .0 .few))
-
-add-put-count : tie.Need-add-put-count
-add-put-count c = search needs
 
 put-count-requires : tie.Need-put-count-requires
 put-count-requires c κs = ap length (c .before .before .before .put-range2 .ensures) ∙ length-sets {A = ℕ} (c .before .before .before .before .before .before .before .before .before .before .args .view .now) (1 + 6 * c .before .before .before .before .before .before .before .count-of .result) (rangeWords (c .before .before .before .before .before .before .before .before .before .before .args .r)) ∙ c .before .before .before .before .before .before .before .before .before .before .pre .0 .words
@@ -95,18 +83,5 @@ returns-3 c = added-here c
 pub push-range-spec : {M : Type 1} → statement M
 push-range-spec =
     tie.close
-    (tie.spec
-    count-of-requires
-    sub-k
-    range-at-requires
-    goes-on-requires
-    put-range-requires
-    same-length
-    returns
-    same-length-2
-    returns-2
-    put-range-requires-2
-    add-put-count
-    put-count-requires
-    same-length-3
-    returns-3)
+    (tie.spec (λ c κs. search needs) (λ c. search needs) range-at-requires goes-on-requires put-range-requires same-length returns
+    (λ c. search needs) returns-2 put-range-requires-2 (λ c. search needs) put-count-requires same-length-3 returns-3)

@@ -4,22 +4,8 @@ use borrow.Author.Needs.{needs}
 use Rattle.region_map.proofs.pieces.begin.Statement.{statement}
 use Rattle.region_map.proofs.pieces.begin.Tie as tie
 
-slice-write-table : tie.Need-slice-write-table
-slice-write-table c = search needs
-
-slice-write-table-2 : tie.Need-slice-write-table-2
-slice-write-table-2 c = search needs
-
-slice-write-table-3 : tie.Need-slice-write-table-3
-slice-write-table-3 c = search needs
-
-same-length : tie.Need-same-length
-same-length c = search needs
-
 returns : tie.Need-returns
 returns c = begin-empty (c .args .table .now) (c .args .start .0) (c .args .end .0) (c .pre .0) (c .pre .1) (c .pre .2)
 
 pub begin-spec : {M : Type 1} → statement M
-begin-spec =
-    tie.close
-    (tie.spec slice-write-table slice-write-table-2 slice-write-table-3 same-length returns)
+begin-spec = tie.close (tie.spec (λ c. search needs) (λ c. search needs) (λ c. search needs) (λ c. search needs) returns)

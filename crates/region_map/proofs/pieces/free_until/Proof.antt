@@ -5,18 +5,6 @@ use Rattle.region_map.proofs.FillLaws.{free-least}
 use Rattle.region_map.proofs.pieces.free_until.Statement.{statement}
 use Rattle.region_map.proofs.pieces.free_until.Tie as tie
 
-shared-slice-read-if1 : tie.Need-shared-slice-read-if1
-shared-slice-read-if1 c = search needs
-
-piece-at-requires : tie.Need-piece-at-requires
-piece-at-requires c κs = search needs
-
-returns : tie.Need-returns
-returns c = search needs
-
-least-requires : tie.Need-least-requires
-least-requires c κs = search needs
-
 returns-2 : tie.Need-returns-2
 returns-2 c =
     let s = c .before .before .before .before .before .before .before in
@@ -25,10 +13,7 @@ returns-2 c =
     (c .before .before .before .before .if1 .taken) (omega (arith, c .before .if2 .left, e)) (s .pre .1 .1) (omega (arith, c .least .ensures, e)) (omega (arith, c .least .ensures))
     (λ h. omega (arith, c .least .ensures, e))
 
-returns-3 : tie.Need-returns-3
-returns-3 c = search needs
-
 pub free-until-spec : {M : Type 1} → statement M
 free-until-spec =
     tie.close
-    (tie.spec shared-slice-read-if1 piece-at-requires returns least-requires returns-2 returns-3)
+    (tie.spec (λ c. search needs) (λ c κs. search needs) (λ c. search needs) (λ c κs. search needs) returns-2 (λ c. search needs))

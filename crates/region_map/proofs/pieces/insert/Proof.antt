@@ -31,27 +31,6 @@ made j =
 made-size : (j : tie.Joined1) → length (j .if1 .table) ≡ 1027
 made-size j = ⊎-elim (λ x. x .0 .size) (λ x. x .0 .size) (made j)
 
-slice-read-count : tie.Need-slice-read-count
-slice-read-count c = search needs
-
-slice-read-table : tie.Need-slice-read-table
-slice-read-table c = search needs
-
-slice-write-table : tie.Need-slice-write-table
-slice-write-table c = search needs
-
-shift-requires : tie.Need-shift-requires
-shift-requires c κs = search needs
-
-shift-requires-2 : tie.Need-shift-requires-2
-shift-requires-2 c κs = search needs
-
-add-table : tie.Need-add-table
-add-table c = search needs
-
-slice-write-table-2 : tie.Need-slice-write-table-2
-slice-write-table-2 c = search needs
-
 put-piece-requires : tie.Need-put-piece-requires
 put-piece-requires c κs = (made-size (c .before), c .before .before .before .before .pre .1 .room)
 
@@ -75,14 +54,5 @@ returns c =
 pub insert-spec : {M : Type 1} → statement M
 insert-spec =
     tie.close
-    (tie.spec
-    slice-read-count
-    slice-read-table
-    slice-write-table
-    shift-requires
-    shift-requires-2
-    add-table
-    slice-write-table-2
-    put-piece-requires
-    same-length
-    returns)
+    (tie.spec (λ c. search needs) (λ c. search needs) (λ c. search needs) (λ c κs. search needs) (λ c κs. search needs)
+    (λ c. search needs) (λ c. search needs) put-piece-requires same-length returns)

@@ -6,12 +6,6 @@ use Rattle.region_map.specs.Pieces.{countOf}
 use Rattle.region_map.proofs.pieces.is_taken.Statement.{statement}
 use Rattle.region_map.proofs.pieces.is_taken.Tie as tie
 
-shared-slice-read-if1 : tie.Need-shared-slice-read-if1
-shared-slice-read-if1 c = search needs
-
-piece-at-requires : tie.Need-piece-at-requires
-piece-at-requires c κs = search needs
-
 returns : tie.Need-returns
 returns c =
     let s = c .before .before .before .before .before in
@@ -23,4 +17,4 @@ returns-2 c =
     rw (le-ltb (s .args .i) (countOf (s .args .table .now)) (omega (arith, c .if1 .left)))
 
 pub is-taken-spec : {M : Type 1} → statement M
-is-taken-spec = tie.close (tie.spec shared-slice-read-if1 piece-at-requires returns returns-2)
+is-taken-spec = tie.close (tie.spec (λ c. search needs) (λ c κs. search needs) returns returns-2)

@@ -19,20 +19,11 @@ abbrev μ-loop : tie.MeasureT-loop
 loop-holds : tie.Need-loop-holds Inv-loop μ-loop
 loop-holds c = (omega arith, omega arith, move-start (c .before .args .table .now) (3 + 4 * c .before .args .n))
 
-sub-k : tie.Need-sub-k Inv-loop μ-loop
-sub-k c = search needs
-
 piece-at-requires : tie.Need-piece-at-requires Inv-loop μ-loop
 piece-at-requires c κs = (c .before .before .loop .inv .2 .size ∙ c .before .before .before .before .pre .0, omega (arith, c .before .before .before .before .pre .2, c .before .before .loop .inv .1))
 
-add-put-piece : tie.Need-add-put-piece Inv-loop μ-loop
-add-put-piece c = search needs
-
 put-piece-requires : tie.Need-put-piece-requires Inv-loop μ-loop
 put-piece-requires c κs = (c .before .before .before .before .loop .inv .2 .size ∙ c .before .before .before .before .before .before .pre .0, omega (arith, c .before .before .before .before .before .before .pre .2, c .before .before .before .before .loop .inv .1, c .before .before .before .loop-test .taken))
-
-loop-less : tie.Need-loop-less Inv-loop μ-loop
-loop-less c = search needs
 
 loop-again : tie.Need-loop-again Inv-loop μ-loop
 loop-again c =
@@ -59,15 +50,5 @@ returns c =
 pub shift-spec : {M : Type 1} → statement M
 shift-spec =
     tie.close
-    (tie.spec
-    Inv-loop
-    μ-loop
-    loop-holds
-    sub-k
-    piece-at-requires
-    add-put-piece
-    put-piece-requires
-    loop-less
-    loop-again
-    same-length
-    returns)
+    (tie.spec Inv-loop μ-loop loop-holds (λ c. search needs) piece-at-requires (λ c. search needs) put-piece-requires (λ c. search needs)
+    loop-again same-length returns)

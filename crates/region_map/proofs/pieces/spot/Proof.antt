@@ -13,14 +13,8 @@ Inv-loop table a low₀ high₀ low high = Halved table a low high
 abbrev μ-loop : tie.MeasureT-loop
 μ-loop table a low₀ high₀ low high = high - low
 
-shared-slice-read-high : tie.Need-shared-slice-read-high Inv-loop μ-loop
-shared-slice-read-high c = search needs
-
 loop-holds : tie.Need-loop-holds Inv-loop μ-loop
 loop-holds c = halved-first (c .before .before .args .table .now) (c .before .before .args .a)
-
-sub-middle : tie.Need-sub-middle Inv-loop μ-loop
-sub-middle c = search needs
 
 add-middle : tie.Need-add-middle Inv-loop μ-loop
 add-middle c =
@@ -64,17 +58,5 @@ returns c = halved-spot (c .before .loop .inv) (omega (arith, c .loop-test .left
 pub spot-spec : {M : Type 1} → statement M
 spot-spec =
     tie.close
-    (tie.spec
-    Inv-loop
-    μ-loop
-    shared-slice-read-high
-    loop-holds
-    sub-middle
-    add-middle
-    piece-at-requires
-    add-low
-    loop-less
-    loop-again
-    loop-less-2
-    loop-again-2
-    returns)
+    (tie.spec Inv-loop μ-loop (λ c. search needs) loop-holds (λ c. search needs) add-middle piece-at-requires add-low loop-less loop-again
+    loop-less-2 loop-again-2 returns)

@@ -15,12 +15,6 @@ use Rattle.region_map.proofs.resolve.resolve_address.Tie as tie
 ok : (c : tie.Then1) → Accepted (mapOf (c .before .before .before .before .args .map .now)) (c .before .before .before .before .args .memory-length)
 ok c = is-accepted _ _ _ (c .before .before .check-map .ensures) (sym (c .before .accepts .ensures) ∙ c .if1 .taken)
 
-check-map-requires : tie.Need-check-map-requires
-check-map-requires c κs = search needs
-
-accepts-requires : tie.Need-accepts-requires
-accepts-requires c κs = search needs
-
 region-count-requires : tie.Need-region-count-requires
 region-count-requires c κs = accepted-words _ _ (ok c)
 
@@ -50,12 +44,5 @@ returns-2 c = not-led _ _ _ _ (c .before .before .check-map .ensures) (sym (c .b
 pub resolve-address-spec : {M : Type 1} → statement M
 resolve-address-spec =
     tie.close
-    (tie.spec
-    check-map-requires
-    accepts-requires
-    region-count-requires
-    sub-root
-    root-offset-requires
-    walk-requires
-    returns
+    (tie.spec (λ c κs. search needs) (λ c κs. search needs) region-count-requires sub-root root-offset-requires walk-requires returns
     returns-2)

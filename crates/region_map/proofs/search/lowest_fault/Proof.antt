@@ -29,12 +29,6 @@ at-fault-requires c κs = (c .before .before .before .before .pre, omega (arith,
 returns : tie.Need-returns Inv-loop μ-loop
 returns c = λ k. lowest-at _ k _ _ (omega (arith, c .before .before .loop-test .taken, c .before .before .before .before .region-count .ensures)) (c .before .before .before .loop .inv .1) (sym (c .before .at-fault .ensures) ∙ c .if1 .taken)
 
-add-n : tie.Need-add-n Inv-loop μ-loop
-add-n c = search needs
-
-loop-less : tie.Need-loop-less Inv-loop μ-loop
-loop-less c = search needs
-
 loop-again : tie.Need-loop-again Inv-loop μ-loop
 loop-again c = (search needs, below-more _ _ (c .before .before .before .loop .inv .1) (sym (c .before .at-fault .ensures) ∙ c .if1 .left))
 
@@ -44,14 +38,5 @@ returns-2 c = λ k. lowest-none _ k _ (λ i p. c .before .loop .inv .1 i (omega 
 pub lowest-fault-spec : {M : Type 1} → statement M
 lowest-fault-spec =
     tie.close
-    (tie.spec
-    Inv-loop
-    μ-loop
-    region-count-requires
-    loop-holds
-    at-fault-requires
-    returns
-    add-n
-    loop-less
-    loop-again
-    returns-2)
+    (tie.spec Inv-loop μ-loop region-count-requires loop-holds at-fault-requires returns (λ c. search needs) (λ c. search needs)
+    loop-again returns-2)

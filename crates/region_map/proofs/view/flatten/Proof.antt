@@ -22,15 +22,6 @@ returns c =
     let e = into-other (mapOf (c .before .before .before .args .map .now)) (c .before .before .before .args .memory-length) (c .before .before .before .args .view .now) (c .if1 .taken) in
     (sym (ap (λ (m : Made). m .reply) e), sym (ap (λ (m : Made). m .words) e))
 
-check-map-requires : tie.Need-check-map-requires
-check-map-requires c κs = search needs
-
-accepts-requires : tie.Need-accepts-requires
-accepts-requires c κs = search needs
-
-slice-aggregate-sweep : tie.Need-slice-aggregate-sweep
-slice-aggregate-sweep c = search needs
-
 sweep-requires : tie.Need-sweep-requires
 sweep-requires c κs = ((accepted-tree _ _ (ok (c .before)), accepted-some _ _ (ok (c .before))), (length-replicate {A = ℕ} 1537 0, none-yet))
 
@@ -67,15 +58,5 @@ returns-4 c =
 pub flatten-spec : {M : Type 1} → statement M
 flatten-spec =
     tie.close
-    (tie.spec
-    returns
-    check-map-requires
-    accepts-requires
-    slice-aggregate-sweep
-    sweep-requires
-    returns-2
-    slice-aggregate-copy-words
-    copy-words-requires
-    same-length
-    returns-3
-    returns-4)
+    (tie.spec returns (λ c κs. search needs) (λ c κs. search needs) (λ c. search needs) sweep-requires returns-2
+    slice-aggregate-copy-words copy-words-requires same-length returns-3 returns-4)

@@ -6,21 +6,6 @@ use borrow.Author.Needs.{needs}
 use Rattle.sheet.proofs.fields.read_field.Statement.{statement}
 use Rattle.sheet.proofs.fields.read_field.Tie as tie
 
-has-requires : tie.Need-has-requires
-has-requires c κs = search needs
-
-read-number-requires : tie.Need-read-number-requires
-read-number-requires c κs = search needs
-
-enum-known-value : tie.Need-enum-known-value
-enum-known-value c = search needs
-
-with-value-requires : tie.Need-with-value-requires
-with-value-requires c κs = search needs
-
-enum-known-answer : tie.Need-enum-known-answer
-enum-known-answer c = search needs
-
 returns : tie.Need-returns
 returns c = rw (c .with-value .ensures) (sym (field-read _ _ _ _ _ _ (sym (c .before .before .before .before .before .before .has .ensures) ∙ c .before .before .before .before .before .if1 .taken) (sym (c .before .before .before .before .read-number .ensures) ∙ ap numberOf (c .before .before .value .given .1))))
 
@@ -33,12 +18,5 @@ returns-3 c = sym (field-lacked _ _ _ _ (sym (c .before .has .ensures) ∙ c .if
 pub read-field-spec : {M : Type 1} → statement M
 read-field-spec =
     tie.close
-    (tie.spec
-    has-requires
-    read-number-requires
-    enum-known-value
-    with-value-requires
-    enum-known-answer
-    returns
-    returns-2
-    returns-3)
+    (tie.spec (λ c κs. search needs) (λ c κs. search needs) (λ c. search needs) (λ c κs. search needs) (λ c. search needs) returns
+    returns-2 returns-3)

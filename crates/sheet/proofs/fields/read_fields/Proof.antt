@@ -18,26 +18,8 @@ abbrev μ-loop : tie.MeasureT-loop
 loop-holds : tie.Need-loop-holds Inv-loop μ-loop
 loop-holds c = (search needs, refl)
 
-field-at-requires : tie.Need-field-at-requires Inv-loop μ-loop
-field-at-requires c κs = search needs
-
-read-field-requires : tie.Need-read-field-requires Inv-loop μ-loop
-read-field-requires c κs = search needs
-
-enum-known-known : tie.Need-enum-known-known Inv-loop μ-loop
-enum-known-known c = search needs
-
-enum-known-answer : tie.Need-enum-known-answer Inv-loop μ-loop
-enum-known-answer c = search needs
-
 returns : tie.Need-returns Inv-loop μ-loop
 returns c = fields-refused _ _ _ _ (c .before .before .before .before .before .loop-test .taken) _ (c .before .before .before .before .field-at .ensures) _ (sym (c .before .before .before .read-field .ensures) ∙ ap regionOf (c .before .answer .given .1)) ∙ c .before .before .before .before .before .before .loop .inv .1
-
-add-i : tie.Need-add-i Inv-loop μ-loop
-add-i c = search needs
-
-loop-less : tie.Need-loop-less Inv-loop μ-loop
-loop-less c = search needs
 
 loop-again : tie.Need-loop-again Inv-loop μ-loop
 loop-again c = (search needs, fields-more _ _ _ _ (c .before .before .before .before .before .loop-test .taken) _ (c .before .before .before .before .field-at .ensures) _ _ (sym (c .before .before .before .read-field .ensures) ∙ ap regionOf (c .before .known .given .1)) ∙ c .before .before .before .before .before .before .loop .inv .1)
@@ -48,16 +30,5 @@ returns-2 c = fields-done _ _ _ _ (c .loop-test .left) ∙ c .before .loop .inv 
 pub read-fields-spec : {M : Type 1} → statement M
 read-fields-spec =
     tie.close
-    (tie.spec
-    Inv-loop
-    μ-loop
-    loop-holds
-    field-at-requires
-    read-field-requires
-    enum-known-known
-    enum-known-answer
-    returns
-    add-i
-    loop-less
-    loop-again
-    returns-2)
+    (tie.spec Inv-loop μ-loop loop-holds (λ c κs. search needs) (λ c κs. search needs) (λ c. search needs) (λ c. search needs) returns
+    (λ c. search needs) (λ c. search needs) loop-again returns-2)

@@ -19,12 +19,6 @@ loop-holds c = started _ _
 returns : tie.Need-returns Inv-loop μ-loop
 returns c = at-end _ _ _ _ _ _ (c .before .before .loop .inv) (c .before .loop-test .taken) (c .if1 .taken)
 
-shared-slice-read-wide : tie.Need-shared-slice-read-wide Inv-loop μ-loop
-shared-slice-read-wide c = search needs
-
-wide-requires : tie.Need-wide-requires Inv-loop μ-loop
-wide-requires c κs = search needs
-
 returns-2 : tie.Need-returns-2 Inv-loop μ-loop
 returns-2 c = at-last-zero _ _ _ _ _ _ (c .before .before .before .before .before .before .loop .inv) (c .before .before .before .before .before .loop-test .taken) (c .before .before .before .before .if1 .left) _ (c .before .before .wide .ensures .0) (c .before .if2 .taken) (c .if3 .taken)
 
@@ -33,9 +27,6 @@ mul-whole c = omega (arith, group-bound _ _ _ _ _ _ (c .before .before .before .
 
 add-whole : tie.Need-add-whole Inv-loop μ-loop
 add-whole c = omega (arith, group-bound _ _ _ _ _ _ (c .before .before .before .before .before .before .loop .inv) (c .before .before .before .before .before .loop-test .taken) (c .before .before .wide .result) (omega arith), scale-bound _ _ _ _ _ _ (c .before .before .before .before .before .before .loop .inv) (c .before .before .before .before .before .loop-test .taken), c .before .before .before .before .before .before .loop .inv .small)
-
-add-t20 : tie.Need-add-t20 Inv-loop μ-loop
-add-t20 c = search needs
 
 returns-3 : tie.Need-returns-3 Inv-loop μ-loop
 returns-3 c = at-last _ _ _ _ _ _ (c .before .before .before .before .before .before .loop .inv) (c .before .before .before .before .before .loop-test .taken) (c .before .before .before .before .if1 .left) _ (c .before .before .wide .ensures .0) (c .before .if2 .taken) (c .if3 .left)
@@ -52,15 +43,6 @@ add-value c = omega (arith, group-bound _ _ _ _ _ _ (c .before .before .before .
 mul-scale : tie.Need-mul-scale Inv-loop μ-loop
 mul-scale c = omega (arith, scale-bound _ _ _ _ _ _ (c .before .before .before .before .before .before .loop .inv) (c .before .before .before .before .before .loop-test .taken))
 
-add-at : tie.Need-add-at Inv-loop μ-loop
-add-at c = search needs
-
-add-i : tie.Need-add-i Inv-loop μ-loop
-add-i c = search needs
-
-loop-less : tie.Need-loop-less Inv-loop μ-loop
-loop-less c = search needs
-
 loop-again : tie.Need-loop-again Inv-loop μ-loop
 loop-again c = at-more _ _ _ _ _ _ (c .before .before .before .before .before .before .loop .inv) (c .before .before .before .before .before .loop-test .taken) (c .before .before .before .before .if1 .left) _ (c .before .before .wide .ensures .0) (c .before .if2 .left) (c .if4 .left) (c .before .before .wide .ensures .1)
 
@@ -70,24 +52,6 @@ returns-5 c = at-ninth _ _ _ _ _ _ (c .before .loop .inv) (c .loop-test .left)
 pub read-number-spec : {M : Type 1} → statement M
 read-number-spec =
     tie.close
-    (tie.spec
-    Inv-loop
-    μ-loop
-    loop-holds
-    returns
-    shared-slice-read-wide
-    wide-requires
-    returns-2
-    mul-whole
-    add-whole
-    add-t20
-    returns-3
-    returns-4
-    mul-value
-    add-value
-    mul-scale
-    add-at
-    add-i
-    loop-less
-    loop-again
-    returns-5)
+    (tie.spec Inv-loop μ-loop loop-holds returns (λ c. search needs) (λ c κs. search needs) returns-2 mul-whole add-whole
+    (λ c. search needs) returns-3 returns-4 mul-value add-value mul-scale (λ c. search needs) (λ c. search needs) (λ c. search needs)
+    loop-again returns-5)

@@ -12,15 +12,6 @@ use borrow.Author.Needs.{needs}
 use Rattle.sheet.proofs.reading.read_map.Statement.{statement}
 use Rattle.sheet.proofs.reading.read_map.Tie as tie
 
-read-number-requires : tie.Need-read-number-requires
-read-number-requires c κs = search needs
-
-enum-known-answer : tie.Need-enum-known-answer
-enum-known-answer c = search needs
-
-enum-known-count : tie.Need-enum-known-count
-enum-known-count c = search needs
-
 returns : tie.Need-returns
 returns c = read-count-not (c .before .before .before .before .before .before .before .args .sheet .now) (c .before .before .before .before .before .before .before .args .memory-length) (c .before .before .before .before .before .before .before .args .map .now) (c .before .before .before .before .before .before .before .pre .0) _ _ (sym (c .before .before .before .before .read-number .ensures) ∙ ap numberOf (c .before .before .count .given .1)) (c .if1 .taken)
 
@@ -30,20 +21,11 @@ put-region-count-requires c κs = c .before .before .before .before .before .bef
 read-regions-requires : tie.Need-read-regions-requires
 read-regions-requires c κs = (count-bound _ (c .before .before .before .before .before .if1 .left), (ap length (c .before .before .before .put-region-count .ensures) ∙ length-set {A = ℕ} (c .before .before .before .before .before .before .before .before .before .before .before .before .args .map .now) 0 _ ∙ c .before .before .before .before .before .before .before .before .before .before .before .before .pre .0, blank-words (c .before .before .before .before .before .before .before .before .before .before .before .before .args .map .now) _ (c .before .before .before .before .before .before .before .before .before .before .before .before .pre .0) (c .before .before .before .before .before .before .before .before .before .before .before .before .pre .1) _ (c .before .before .before .put-region-count .ensures)))
 
-enum-known-answer-2 : tie.Need-enum-known-answer-2
-enum-known-answer-2 c = search needs
-
-enum-known-end : tie.Need-enum-known-end
-enum-known-end c = search needs
-
 same-length : tie.Need-same-length
 same-length c = c .before .before .before .before .before .before .before .read-regions .ensures .1 ∙ sym (c .before .before .before .before .before .before .before .before .before .before .before .before .before .before .before .before .before .before .before .before .pre .0)
 
 returns-2 : tie.Need-returns-2
 returns-2 c = read-tail (c .before .before .before .before .before .before .before .before .before .before .before .before .before .before .before .before .before .before .before .before .args .sheet .now) (c .before .before .before .before .before .before .before .before .before .before .before .before .before .before .before .before .before .before .before .before .args .memory-length) (c .before .before .before .before .before .before .before .read-regions .last .1 .1 .1 .0) (c .before .before .before .before .before .before .before .read-regions .ensures .1) _ _ (sym (c .before .before .before .before .before .before .before .before .before .before .before .before .before .before .before .before .before .read-number .ensures) ∙ ap numberOf (c .before .before .before .before .before .before .before .before .before .before .before .before .before .before .before .count .given .1)) (c .before .before .before .before .before .before .before .before .before .before .before .before .before .if1 .left) _ (sym (ap (λ (p : Progress). progressOf p (mapOf (c .before .before .before .before .before .before .before .read-regions .last .1 .1 .1 .0))) (c .before .before .before .end .given .1)) ∙ c .before .before .before .before .before .before .before .read-regions .ensures .0) (lt-ltb _ _ (c .if2 .taken))
-
-check-map-requires : tie.Need-check-map-requires
-check-map-requires c κs = search needs
 
 returns-3 : tie.Need-returns-3
 returns-3 c = read-number-not (c .before .before .before .before .before .before .args .sheet .now) (c .before .before .before .before .before .before .args .memory-length) (c .before .before .before .before .before .before .args .map .now) (c .before .before .before .before .before .before .pre .0) _ (sym (c .before .before .before .read-number .ensures) ∙ ap numberOf (c .before .answer .given .1))
@@ -63,20 +45,6 @@ returns-5 c = read-end (c .before .before .before .before .before .before .befor
 pub read-map-spec : {M : Type 1} → statement M
 read-map-spec =
     tie.close
-    (tie.spec
-    read-number-requires
-    enum-known-answer
-    enum-known-count
-    returns
-    put-region-count-requires
-    read-regions-requires
-    enum-known-answer-2
-    enum-known-end
-    same-length
-    returns-2
-    check-map-requires
-    returns-3
-    same-length-2
-    returns-4
-    same-length-3
+    (tie.spec (λ c κs. search needs) (λ c. search needs) (λ c. search needs) returns put-region-count-requires read-regions-requires
+    (λ c. search needs) (λ c. search needs) same-length returns-2 (λ c κs. search needs) returns-3 same-length-2 returns-4 same-length-3
     returns-5)

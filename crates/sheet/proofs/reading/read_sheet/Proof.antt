@@ -14,14 +14,8 @@ returns c =
     let e = into-other (c .before .before .before .args .sheet .now) (c .before .before .before .args .memory-length) (c .before .before .before .args .map .now) (c .if1 .taken) in
     (sym (ap (λ (x : Made). x .reply) e), sym (ap (λ (x : Made). x .words) e))
 
-slice-aggregate-read-map : tie.Need-slice-aggregate-read-map
-slice-aggregate-read-map c = search needs
-
 read-map-requires : tie.Need-read-map-requires
 read-map-requires c κs = (length-replicate {A = ℕ} 289 0, empty-map-words)
-
-is-accepted-requires : tie.Need-is-accepted-requires
-is-accepted-requires c κs = search needs
 
 slice-aggregate-copy-words : tie.Need-slice-aggregate-copy-words
 slice-aggregate-copy-words c = sym (c .before .before .before .before .before .read-map .ensures .size)
@@ -49,13 +43,5 @@ returns-3 c =
 pub read-sheet-spec : {M : Type 1} → statement M
 read-sheet-spec =
     tie.close
-    (tie.spec
-    returns
-    slice-aggregate-read-map
-    read-map-requires
-    is-accepted-requires
-    slice-aggregate-copy-words
-    copy-words-requires
-    same-length
-    returns-2
-    returns-3)
+    (tie.spec returns (λ c. search needs) read-map-requires (λ c κs. search needs) slice-aggregate-copy-words copy-words-requires
+    same-length returns-2 returns-3)

@@ -21,26 +21,14 @@ abbrev μ-loop : tie.MeasureT-loop
 loop-holds : tie.Need-loop-holds Inv-loop μ-loop
 loop-holds c = (omega arith, c .before .before .pre .1 .0, rw (c .before .before .pre .1 .1, sub-zero))
 
-read-region-requires : tie.Need-read-region-requires Inv-loop μ-loop
-read-region-requires c κs = search needs
-
-enum-known-region : tie.Need-enum-known-region Inv-loop μ-loop
-enum-known-region c = search needs
-
 put-region-requires : tie.Need-put-region-requires Inv-loop μ-loop
 put-region-requires c κs = (c .before .before .before .before .before .before .loop .inv .1, omega (arith, c .before .before .before .before .before .loop-test .taken, c .before .before .before .before .before .before .before .before .before .pre .0))
-
-enum-known-answer : tie.Need-enum-known-answer Inv-loop μ-loop
-enum-known-answer c = search needs
 
 same-length : tie.Need-same-length Inv-loop μ-loop
 same-length c = c .before .before .before .before .before .loop .inv .1 ∙ sym (c .before .before .before .before .before .before .before .before .pre .1 .0)
 
 returns : tie.Need-returns Inv-loop μ-loop
 returns c = (regions-refused _ _ _ _ _ (c .before .before .before .before .loop-test .taken) _ (sym (c .before .before .before .read-region .ensures) ∙ ap regionOf (c .before .answer .given .1)) ∙ c .before .before .before .before .before .loop .inv .2, c .before .before .before .before .before .loop .inv .1)
-
-add-n : tie.Need-add-n Inv-loop μ-loop
-add-n c = search needs
 
 loop-less : tie.Need-loop-less Inv-loop μ-loop
 loop-less c = omega (arith, c .before .before .before .before .before .before .before .before .loop-test .taken)
@@ -62,18 +50,5 @@ returns-2 c = (regions-done _ _ _ _ _ (c .loop-test .left) ∙ c .before .loop .
 pub read-regions-spec : {M : Type 1} → statement M
 read-regions-spec =
     tie.close
-    (tie.spec
-    Inv-loop
-    μ-loop
-    loop-holds
-    read-region-requires
-    enum-known-region
-    put-region-requires
-    enum-known-answer
-    same-length
-    returns
-    add-n
-    loop-less
-    loop-again
-    same-length-2
-    returns-2)
+    (tie.spec Inv-loop μ-loop loop-holds (λ c κs. search needs) (λ c. search needs) put-region-requires (λ c. search needs) same-length
+    returns (λ c. search needs) loop-less loop-again same-length-2 returns-2)

@@ -15,38 +15,11 @@ use borrow.Author.Needs.{needs}
 use Rattle.virtqueue.proofs.chain.add_element.Statement.{statement}
 use Rattle.virtqueue.proofs.chain.add_element.Tie as tie
 
-is-writable-requires : tie.Need-is-writable-requires
-is-writable-requires c κs = search needs
-
-sub-fitting : tie.Need-sub-fitting
-sub-fitting c = search needs
-
-fitting-requires : tie.Need-fitting-requires
-fitting-requires c κs = search needs
-
-add-end : tie.Need-add-end
-add-end c = search needs
-
-mul-find-places : tie.Need-mul-find-places
-mul-find-places c = search needs
-
-sub-find-places : tie.Need-sub-find-places
-sub-find-places c = search needs
-
-part-find-places-start : tie.Need-part-find-places-start
-part-find-places-start c = search needs
-
-part-find-places-end : tie.Need-part-find-places-end
-part-find-places-end c = search needs
-
 find-places-requires : tie.Need-find-places-requires
 find-places-requires c κs = let s = c .before .before .before .before .before .before .before .before in
     let w = s .args .so-far .writable in
     let n = c .before .fitting .result in
     (s .pre .0, memory-front (viewOf (s .args .view .now)) (s .args .d .addr .0) (s .args .d .length) _ (s .pre .1 .1 .0) (omega (arith, c .before .fitting .ensures, length-take (w + n - w) (drop w (s .args .places .now)))))
-
-same-length : tie.Need-same-length
-same-length c = search needs
 
 returns : tie.Need-returns
 returns c = let s = c .before .before .before .before .before .before .before .before .before .before .before in
@@ -61,32 +34,11 @@ returns c = let s = c .before .before .before .before .before .before .before .b
       refl,
     )
 
-sub-fitting-2 : tie.Need-sub-fitting-2
-sub-fitting-2 c = search needs
-
-fitting-requires-2 : tie.Need-fitting-requires-2
-fitting-requires-2 c κs = search needs
-
-add-end-2 : tie.Need-add-end-2
-add-end-2 c = search needs
-
-sub-read-bytes : tie.Need-sub-read-bytes
-sub-read-bytes c = search needs
-
-part-read-bytes-start : tie.Need-part-read-bytes-start
-part-read-bytes-start c = search needs
-
-part-read-bytes-end : tie.Need-part-read-bytes-end
-part-read-bytes-end c = search needs
-
 read-bytes-requires : tie.Need-read-bytes-requires
 read-bytes-requires c κs = let s = c .before .before .before .before .before .before .before .before in
     let w = s .args .so-far .readable in
     let n = c .before .fitting2 .result in
     (s .pre .0, (s .pre .1 .0, memory-front (viewOf (s .args .view .now)) (s .args .d .addr .0) (s .args .d .length) _ (s .pre .1 .1 .0) (omega (arith, c .before .fitting2 .ensures, length-take (w + n - w) (drop w (s .args .request .now))))))
-
-same-length-2 : tie.Need-same-length-2
-same-length-2 c = search needs
 
 returns-2 : tie.Need-returns-2
 returns-2 c = let s = c .before .before .before .before .before .before .before .before .before .before .before in
@@ -104,24 +56,7 @@ returns-2 c = let s = c .before .before .before .before .before .before .before 
 pub add-element-spec : {M : Type 1} → statement M
 add-element-spec =
     tie.close
-    (tie.spec
-    is-writable-requires
-    sub-fitting
-    fitting-requires
-    add-end
-    mul-find-places
-    sub-find-places
-    part-find-places-start
-    part-find-places-end
-    find-places-requires
-    same-length
-    returns
-    sub-fitting-2
-    fitting-requires-2
-    add-end-2
-    sub-read-bytes
-    part-read-bytes-start
-    part-read-bytes-end
-    read-bytes-requires
-    same-length-2
-    returns-2)
+    (tie.spec (λ c κs. search needs) (λ c. search needs) (λ c κs. search needs) (λ c. search needs) (λ c. search needs)
+    (λ c. search needs) (λ c. search needs) (λ c. search needs) find-places-requires (λ c. search needs) returns (λ c. search needs)
+    (λ c κs. search needs) (λ c. search needs) (λ c. search needs) (λ c. search needs) (λ c. search needs) read-bytes-requires
+    (λ c. search needs) returns-2)

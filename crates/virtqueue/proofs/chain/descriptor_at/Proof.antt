@@ -8,28 +8,9 @@ use borrow.Author.Needs.{needs}
 use Rattle.virtqueue.proofs.chain.descriptor_at.Statement.{statement}
 use Rattle.virtqueue.proofs.chain.descriptor_at.Tie as tie
 
-slice-aggregate-read-bytes : tie.Need-slice-aggregate-read-bytes
-slice-aggregate-read-bytes c = search needs
-
-read-bytes-requires : tie.Need-read-bytes-requires
-read-bytes-requires c κs = search needs
-
-slice-aggregate-descriptor-of : tie.Need-slice-aggregate-descriptor-of
-slice-aggregate-descriptor-of c = search needs
-
-descriptor-of-requires : tie.Need-descriptor-of-requires
-descriptor-of-requires c κs = search needs
-
 returns : tie.Need-returns
 returns c = let d = c .descriptor-of .ensures in
     (d .0 ∙ ap (λ (b : List ℕ). descriptorAt (λ a. a) b 0) (c .before .before .before .read-bytes .ensures) ∙ descriptor-laid _ _ _, d .1)
 
 pub descriptor-at-spec : {M : Type 1} → statement M
-descriptor-at-spec =
-    tie.close
-    (tie.spec
-    slice-aggregate-read-bytes
-    read-bytes-requires
-    slice-aggregate-descriptor-of
-    descriptor-of-requires
-    returns)
+descriptor-at-spec = tie.close (tie.spec (λ c. search needs) (λ c κs. search needs) (λ c. search needs) (λ c κs. search needs) returns)

@@ -4,18 +4,6 @@ use borrow.Author.Needs.{needs}
 use Rattle.virtqueue.proofs.chain.descriptor_of.Statement.{statement}
 use Rattle.virtqueue.proofs.chain.descriptor_of.Tie as tie
 
-number-from-requires : tie.Need-number-from-requires
-number-from-requires c κs = search needs
-
-number-from-requires-2 : tie.Need-number-from-requires-2
-number-from-requires-2 c κs = search needs
-
-number-from-requires-3 : tie.Need-number-from-requires-3
-number-from-requires-3 c κs = search needs
-
-number-from-requires-4 : tie.Need-number-from-requires-4
-number-from-requires-4 c κs = search needs
-
 returns : tie.Need-returns
 unfolding descriptorAt
 returns c = let addr = c .before .before .before .number-from .ensures in
@@ -27,9 +15,4 @@ returns c = let addr = c .before .before .before .number-from .ensures in
 pub descriptor-of-spec : {M : Type 1} → statement M
 descriptor-of-spec =
     tie.close
-    (tie.spec
-    number-from-requires
-    number-from-requires-2
-    number-from-requires-3
-    number-from-requires-4
-    returns)
+    (tie.spec (λ c κs. search needs) (λ c κs. search needs) (λ c κs. search needs) (λ c κs. search needs) returns)

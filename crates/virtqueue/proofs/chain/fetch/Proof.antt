@@ -8,12 +8,6 @@ use borrow.Author.Needs.{needs}
 use Rattle.virtqueue.proofs.chain.fetch.Statement.{statement}
 use Rattle.virtqueue.proofs.chain.fetch.Tie as tie
 
-mul-t10 : tie.Need-mul-t10
-mul-t10 c = search needs
-
-add-t11 : tie.Need-add-t11
-add-t11 c = search needs
-
 reaches-requires : tie.Need-reaches-requires
 reaches-requires c κs = let s = c .before .before .before .before in (s .pre .0 .judged, (s .pre .0 .some, s .pre .0 .table))
 
@@ -29,5 +23,4 @@ unfolding fetched
 returns-2 c = simp (sym (c .before .reaches .ensures) ∙ c .if1 .left)
 
 pub fetch-spec : {M : Type 1} → statement M
-fetch-spec =
-    tie.close (tie.spec mul-t10 add-t11 reaches-requires descriptor-at-requires returns returns-2)
+fetch-spec = tie.close (tie.spec (λ c. search needs) (λ c. search needs) reaches-requires descriptor-at-requires returns returns-2)

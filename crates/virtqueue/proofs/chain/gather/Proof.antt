@@ -39,62 +39,65 @@ chain s = chainAt (guest s) (s .args .mem .now) (s .args .table .0) (s .args .si
 
 -- the chain that is left where a turn begins
 abbrev left-of : tie.At-loop Inv-loop μ-loop → Chain
-left-of l = follow (entries (l .before .before .before .before .before .before)) (reached (guest (l .before .before .before .before .before .before))) (nextBelow (l .before .before .before .before .before .before .args .size)) (l .loop .left) (l .loop .i) (l .loop .so-far .late)
+left-of l = follow (entries (l .before .before .before .before .before .before .before)) (reached (guest (l .before .before .before .before .before .before .before))) (nextBelow (l .before .before .before .before .before .before .before .args .size)) (l .loop .left) (l .loop .i) (l .loop .so-far .late)
 
 some-left : (c : tie.In-loop Inv-loop μ-loop) → 0 < c .before .loop .left
 some-left c = c .loop-test .taken
 
 -- the descriptor that a turn reads
-here : (c : tie.After-known-told Inv-loop μ-loop) → entries (c .before .before .before .before .before .before .before .before .before .before .before) (c .before .before .before .before .before .loop .i) ≡ chains.here (c .before .d .given .0 .0)
-here c = sym (c .before .before .before .fetch .ensures) ∙ ap entryBy (c .before .d .given .1)
+here : (c : tie.After-known-told Inv-loop μ-loop) → entries (c .before .before .before .before .before .before .before .before .before .before .before .before) (c .before .before .before .before .before .loop .i) ≡ chains.here (c .before .entry .given .0 .0)
+here c = sym (c .before .before .before .fetch .ensures) ∙ ap entryBy (c .before .entry .given .1)
 
 -- what is there after the turn's element
 abbrev got : tie.After-visit Inv-loop μ-loop → Got
 got c = gotOf (c .visit .result) (c .visit .last .1 .1 .1 .1 .1 .1 .1 .0) (c .visit .last .1 .1 .1 .1 .1 .1 .1 .1 .0)
 
-taken : (c : tie.After-visit Inv-loop μ-loop) → c .visit .result .stop ≡ 0 → stopAt (reached (guest (c .before .before .before .before .before .before .before .before .before .before .before .before .before .before))) (c .before .before .before .before .before .before .before .before .loop .so-far .late) (c .before .before .before .before .d .given .0 .0) ≡ 0
+taken : (c : tie.After-visit Inv-loop μ-loop) → c .visit .result .stop ≡ 0 → stopAt (reached (guest (c .before .before .before .before .before .before .before .before .before .before .before .before .before .before .before))) (c .before .before .before .before .before .before .before .before .loop .so-far .late) (c .before .before .before .before .entry .given .0 .0) ≡ 0
 taken c z = sym (c .visit .ensures .end) ∙ z
 
-gathered : (c : tie.After-visit Inv-loop μ-loop) → c .visit .result .stop ≡ 0 → (rest : Chain) → left-of (c .before .before .before .before .before .before .before .before) ≡ element (c .before .before .before .before .d .given .0 .0) rest
-    → Going (placeIn (viewOf (c .before .before .before .before .before .before .before .before .before .before .before .before .before .before .args .view .now))) (c .before .before .before .before .before .before .before .before .before .before .before .before .before .before .args .mem .now) (chain (c .before .before .before .before .before .before .before .before .before .before .before .before .before .before)) rest (got c)
-gathered c z rest e = going-next _ _ _ (left-of (c .before .before .before .before .before .before .before .before)) rest (c .before .before .before .before .d .given .0 .0) _ _ (c .before .before .before .before .before .before .before .before .loop .inv .2) e (c .visit .ensures .accepted z)
+gathered : (c : tie.After-visit Inv-loop μ-loop) → c .visit .result .stop ≡ 0 → (rest : Chain) → left-of (c .before .before .before .before .before .before .before .before) ≡ element (c .before .before .before .before .entry .given .0 .0) rest
+    → Going (placeIn (viewOf (c .before .before .before .before .before .before .before .before .before .before .before .before .before .before .before .args .view .now))) (c .before .before .before .before .before .before .before .before .before .before .before .before .before .before .before .args .mem .now) (chain (c .before .before .before .before .before .before .before .before .before .before .before .before .before .before .before)) rest (got c)
+gathered c z rest e = going-next _ _ _ (left-of (c .before .before .before .before .before .before .before .before)) rest (c .before .before .before .before .entry .given .0 .0) _ _ (c .before .before .before .before .before .before .before .before .loop .inv .2) e (c .visit .ensures .accepted z)
 
-late : (c : tie.After-visit Inv-loop μ-loop) → c .visit .result .stop ≡ 0 → c .visit .result .late ≡ isWritable (c .before .before .before .before .d .given .0 .0)
+late : (c : tie.After-visit Inv-loop μ-loop) → c .visit .result .stop ≡ 0 → c .visit .result .late ≡ isWritable (c .before .before .before .before .entry .given .0 .0)
 late c z = ap (λ (g : Got). g .late) (c .visit .ensures .accepted z) ∙ added-late _ _ _ _
+
+begun-requires : tie.Need-begun-requires Inv-loop μ-loop
+begun-requires c κs = tt
 
 loop-holds : tie.Need-loop-holds Inv-loop μ-loop
 unfolding chainAt
-loop-holds c = let p = c .before .before .before .before .before .pre .1 in (omega arith, p .0 .2, going-start _ _ _ _ _ (p .1 .bytes) (p .1 .room))
+loop-holds c = let p = c .before .before .before .before .before .before .pre in rw (c .begun .ensures) (omega arith, p .1 .2, going-start _ _ _ _ _ (p .0 .1 .bytes) (p .0 .1 .room))
 
 fetch-requires : tie.Need-fetch-requires Inv-loop μ-loop
-fetch-requires c κs = let s = c .before .before .before .before .before .before .before in let q = s .pre .1 .0 in (s .pre .0, (q .0, omega (arith, q .1, c .before .loop .inv .1)))
+fetch-requires c κs = let s = c .before .before .before .before .before .before .before .before in let q = s .pre .1 in (s .pre .0 .0, (q .0, omega (arith, q .1, c .before .loop .inv .1)))
 
 enum-told : tie.Need-enum-told Inv-loop μ-loop
-enum-told c = c .match .keys1
+enum-told c = c .match .keys2
 
 ended-requires : tie.Need-ended-requires Inv-loop μ-loop
 ended-requires c κs = tt
 
 same-length : tie.Need-same-length Inv-loop μ-loop
-same-length c = c .before .before .before .before .before .loop .inv .2 .«all-read» ∙ sym (c .before .before .before .before .before .before .before .before .before .before .before .pre .1 .1 .bytes)
+same-length c = c .before .before .before .before .before .loop .inv .2 .«all-read» ∙ sym (c .before .before .before .before .before .before .before .before .before .before .before .before .pre .0 .1 .bytes)
 
 same-length-2 : tie.Need-same-length-2 Inv-loop μ-loop
-same-length-2 c = c .before .before .before .before .before .loop .inv .2 .«all-written» ∙ sym (c .before .before .before .before .before .before .before .before .before .before .before .pre .1 .1 .room)
+same-length-2 c = c .before .before .before .before .before .loop .inv .2 .«all-written» ∙ sym (c .before .before .before .before .before .before .before .before .before .before .before .before .pre .0 .1 .room)
 
 returns : tie.Need-returns Inv-loop μ-loop
 returns c = going-ended _ _ _ (left-of (c .before .before .before .before .before)) 17 _ _ _ (c .before .before .before .before .before .loop .inv .2) (follow-out _ _ _ _ _ _ (some-left (c .before .before .before .before)) (sym (c .before .before .before .fetch .ensures) ∙ ap entryBy (c .before .enum-told .given .1))) (λ z. omega arith) (c .ended .ensures)
 
-enum-known-d : tie.Need-enum-known-d Inv-loop μ-loop
-enum-known-d c = c .match .keys2
+enum-known-entry : tie.Need-enum-known-entry Inv-loop μ-loop
+enum-known-entry c = c .match .keys1
 
 visit-requires : tie.Need-visit-requires Inv-loop μ-loop
-visit-requires c κs = let s = c .before .before .before .before .before .before .before .before .before .before .before .before .before in let g = c .before .before .before .before .before .before .before .loop .inv .2 in (s .pre .0, record { «few-read» = g .«few-read»; «few-written» = g .«few-written»; «all-read» = g .«all-read»; «all-written» = g .«all-written» })
+visit-requires c κs = let s = c .before .before .before .before .before .before .before .before .before .before .before .before .before .before in let g = c .before .before .before .before .before .before .before .loop .inv .2 in (s .pre .0 .0, record { «few-read» = g .«few-read»; «few-written» = g .«few-written»; «all-read» = g .«all-read»; «all-written» = g .«all-written» })
 
 same-length-3 : tie.Need-same-length-3 Inv-loop μ-loop
-same-length-3 c = c .before .before .before .before .before .before .visit .kept .1 .1 .1 .1 .1 .1 .1 .0 ∙ c .before .before .before .before .before .before .before .before .before .before .before .before .before .before .loop .inv .2 .«all-read» ∙ sym (c .before .before .before .before .before .before .before .before .before .before .before .before .before .before .before .before .before .before .before .before .pre .1 .1 .bytes)
+same-length-3 c = c .before .before .before .before .before .before .visit .kept .1 .1 .1 .1 .1 .1 .1 .0 ∙ c .before .before .before .before .before .before .before .before .before .before .before .before .before .before .loop .inv .2 .«all-read» ∙ sym (c .before .before .before .before .before .before .before .before .before .before .before .before .before .before .before .before .before .before .before .before .before .pre .0 .1 .bytes)
 
 same-length-4 : tie.Need-same-length-4 Inv-loop μ-loop
-same-length-4 c = c .before .before .before .before .before .before .visit .kept .1 .1 .1 .1 .1 .1 .1 .1 .0 ∙ c .before .before .before .before .before .before .before .before .before .before .before .before .before .before .loop .inv .2 .«all-written» ∙ sym (c .before .before .before .before .before .before .before .before .before .before .before .before .before .before .before .before .before .before .before .before .pre .1 .1 .room)
+same-length-4 c = c .before .before .before .before .before .before .visit .kept .1 .1 .1 .1 .1 .1 .1 .1 .0 ∙ c .before .before .before .before .before .before .before .before .before .before .before .before .before .before .loop .inv .2 .«all-written» ∙ sym (c .before .before .before .before .before .before .before .before .before .before .before .before .before .before .before .before .before .before .before .before .before .pre .0 .1 .room)
 
 returns-2 : tie.Need-returns-2 Inv-loop μ-loop
 returns-2 c = let v = c .before .before .before .before .before .before in going-ended _ _ _ (left-of (v .before .before .before .before .before .before .before .before)) _ _ _ _ (v .before .before .before .before .before .before .before .before .loop .inv .2) (follow-stopped _ _ _ _ _ _ (here (v .before .before .before)) _ _ (some-left (v .before .before .before .before .before .before .before)) (v .visit .ensures .end) (c .if1 .taken)) (c .if1 .taken) refl
@@ -103,10 +106,10 @@ has-next-requires : tie.Need-has-next-requires Inv-loop μ-loop
 has-next-requires c κs = tt
 
 same-length-5 : tie.Need-same-length-5 Inv-loop μ-loop
-same-length-5 c = c .before .before .before .before .before .before .before .before .visit .kept .1 .1 .1 .1 .1 .1 .1 .0 ∙ c .before .before .before .before .before .before .before .before .before .before .before .before .before .before .before .before .loop .inv .2 .«all-read» ∙ sym (c .before .before .before .before .before .before .before .before .before .before .before .before .before .before .before .before .before .before .before .before .before .before .pre .1 .1 .bytes)
+same-length-5 c = c .before .before .before .before .before .before .before .before .visit .kept .1 .1 .1 .1 .1 .1 .1 .0 ∙ c .before .before .before .before .before .before .before .before .before .before .before .before .before .before .before .before .loop .inv .2 .«all-read» ∙ sym (c .before .before .before .before .before .before .before .before .before .before .before .before .before .before .before .before .before .before .before .before .before .before .before .pre .0 .1 .bytes)
 
 same-length-6 : tie.Need-same-length-6 Inv-loop μ-loop
-same-length-6 c = c .before .before .before .before .before .before .before .before .visit .kept .1 .1 .1 .1 .1 .1 .1 .1 .0 ∙ c .before .before .before .before .before .before .before .before .before .before .before .before .before .before .before .before .loop .inv .2 .«all-written» ∙ sym (c .before .before .before .before .before .before .before .before .before .before .before .before .before .before .before .before .before .before .before .before .before .before .pre .1 .1 .room)
+same-length-6 c = c .before .before .before .before .before .before .before .before .visit .kept .1 .1 .1 .1 .1 .1 .1 .1 .0 ∙ c .before .before .before .before .before .before .before .before .before .before .before .before .before .before .before .before .loop .inv .2 .«all-written» ∙ sym (c .before .before .before .before .before .before .before .before .before .before .before .before .before .before .before .before .before .before .before .before .before .before .before .pre .0 .1 .room)
 
 returns-3 : tie.Need-returns-3 Inv-loop μ-loop
 returns-3 c = let v = c .before .before .before .before .before .before .before .before in
@@ -117,15 +120,15 @@ ended-requires-2 : tie.Need-ended-requires-2 Inv-loop μ-loop
 ended-requires-2 c κs = tt
 
 same-length-7 : tie.Need-same-length-7 Inv-loop μ-loop
-same-length-7 c = c .before .before .before .before .before .before .before .before .before .before .before .visit .kept .1 .1 .1 .1 .1 .1 .1 .0 ∙ c .before .before .before .before .before .before .before .before .before .before .before .before .before .before .before .before .before .before .before .loop .inv .2 .«all-read» ∙ sym (c .before .before .before .before .before .before .before .before .before .before .before .before .before .before .before .before .before .before .before .before .before .before .before .before .before .pre .1 .1 .bytes)
+same-length-7 c = c .before .before .before .before .before .before .before .before .before .before .before .visit .kept .1 .1 .1 .1 .1 .1 .1 .0 ∙ c .before .before .before .before .before .before .before .before .before .before .before .before .before .before .before .before .before .before .before .loop .inv .2 .«all-read» ∙ sym (c .before .before .before .before .before .before .before .before .before .before .before .before .before .before .before .before .before .before .before .before .before .before .before .before .before .before .pre .0 .1 .bytes)
 
 same-length-8 : tie.Need-same-length-8 Inv-loop μ-loop
-same-length-8 c = c .before .before .before .before .before .before .before .before .before .before .before .visit .kept .1 .1 .1 .1 .1 .1 .1 .1 .0 ∙ c .before .before .before .before .before .before .before .before .before .before .before .before .before .before .before .before .before .before .before .loop .inv .2 .«all-written» ∙ sym (c .before .before .before .before .before .before .before .before .before .before .before .before .before .before .before .before .before .before .before .before .before .before .before .before .before .pre .1 .1 .room)
+same-length-8 c = c .before .before .before .before .before .before .before .before .before .before .before .visit .kept .1 .1 .1 .1 .1 .1 .1 .1 .0 ∙ c .before .before .before .before .before .before .before .before .before .before .before .before .before .before .before .before .before .before .before .loop .inv .2 .«all-written» ∙ sym (c .before .before .before .before .before .before .before .before .before .before .before .before .before .before .before .before .before .before .before .before .before .before .before .before .before .before .pre .0 .1 .room)
 
 returns-4 : tie.Need-returns-4 Inv-loop μ-loop
 returns-4 c = let v = c .before .before .before .before .before .before .before .before .before .before .before in
     let z = c .before .before .before .before .before .if1 .left in
-    let n = next-astray (v .before .before .before .before .before .before .before .before .before .before .before .before .before .before .args .size) (v .before .before .before .before .before .before .before .before .loop .i) (v .before .before .before .before .d .given .0 .0) (c .before .if3 .taken) in
+    let n = next-astray (v .before .before .before .before .before .before .before .before .before .before .before .before .before .before .before .args .size) (v .before .before .before .before .before .before .before .before .loop .i) (v .before .before .before .before .entry .given .0 .0) (c .before .if3 .taken) in
     going-ended _ _ _ (ended 20) 20 _ _ _
     (gathered v z (ended 20) (follow-astray _ _ _ _ _ _ (here (v .before .before .before)) (taken v z) _ (some-left (v .before .before .before .before .before .before .before)) (sym (c .before .before .before .before .has-next .ensures) ∙ not-false _ (c .before .before .before .if2 .left)) n))
     (end-ended 20) (λ z. omega arith) (c .ended2 .ensures)
@@ -138,8 +141,8 @@ loop-less c = let p = some-left (c .before .before .before .before .before .befo
 
 loop-again : tie.Need-loop-again Inv-loop μ-loop
 loop-again c = let v = c .before .before .before .before .before .before .before .before .before .before in
-    let s = v .before .before .before .before .before .before .before .before .before .before .before .before .before .before in
-    let d = v .before .before .before .before .d .given .0 .0 in
+    let s = v .before .before .before .before .before .before .before .before .before .before .before .before .before .before .before in
+    let d = v .before .before .before .before .entry .given .0 .0 in
     let z = c .before .before .before .before .if1 .left in
     let n = next-below (s .args .size) (v .before .before .before .before .before .before .before .before .loop .i) d (c .if3 .left) in (
       omega (arith, v .before .before .before .before .before .before .before .before .loop .inv .0),
@@ -152,10 +155,10 @@ ended-requires-3 : tie.Need-ended-requires-3 Inv-loop μ-loop
 ended-requires-3 c κs = tt
 
 same-length-9 : tie.Need-same-length-9 Inv-loop μ-loop
-same-length-9 c = c .before .before .loop .inv .2 .«all-read» ∙ sym (c .before .before .before .before .before .before .before .before .pre .1 .1 .bytes)
+same-length-9 c = c .before .before .loop .inv .2 .«all-read» ∙ sym (c .before .before .before .before .before .before .before .before .before .pre .0 .1 .bytes)
 
 same-length-10 : tie.Need-same-length-10 Inv-loop μ-loop
-same-length-10 c = c .before .before .loop .inv .2 .«all-written» ∙ sym (c .before .before .before .before .before .before .before .before .pre .1 .1 .room)
+same-length-10 c = c .before .before .loop .inv .2 .«all-written» ∙ sym (c .before .before .before .before .before .before .before .before .before .pre .0 .1 .room)
 
 returns-5 : tie.Need-returns-5 Inv-loop μ-loop
 returns-5 c = going-ended _ _ _ (left-of (c .before .before)) 20 _ _ _ (c .before .before .loop .inv .2) (follow-none _ _ _ _ _ _ (let h = c .before .loop-test .left in omega (arith, h))) (λ z. omega arith) (c .ended3 .ensures)
@@ -166,14 +169,15 @@ gather-spec =
     (tie.spec
     Inv-loop
     μ-loop
+    begun-requires
     loop-holds
     fetch-requires
+    enum-known-entry
     enum-told
     ended-requires
     same-length
     same-length-2
     returns
-    enum-known-d
     visit-requires
     same-length-3
     same-length-4

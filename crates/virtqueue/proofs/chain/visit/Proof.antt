@@ -8,12 +8,6 @@ use borrow.Author.Needs.{needs}
 use Rattle.virtqueue.proofs.chain.visit.Statement.{statement}
 use Rattle.virtqueue.proofs.chain.visit.Tie as tie
 
-is-misplaced-requires : tie.Need-is-misplaced-requires
-is-misplaced-requires c κs = search needs
-
-ended-requires : tie.Need-ended-requires
-ended-requires c κs = search needs
-
 returns : tie.Need-returns
 returns c = visits-misplaced _ _ _ _ _ _ _ (sym (c .before .before .is-misplaced .ensures) ∙ c .before .if1 .taken) (c .ended .ensures)
 
@@ -23,20 +17,11 @@ near-requires c κs = c .before .before .before .before .before .before .before 
 reaches-requires : tie.Need-reaches-requires
 reaches-requires c κs = let s = c .before .before .before .before .before .before .before .before in (s .pre .0 .judged, (s .pre .0 .some, s .pre .0 .table))
 
-ended-requires-2 : tie.Need-ended-requires-2
-ended-requires-2 c κs = search needs
-
 returns-2 : tie.Need-returns-2
 returns-2 c = visits-refused _ _ _ _ _ _ _ (sym (c .before .before .before .before .before .is-misplaced .ensures) ∙ c .before .before .before .before .if1 .left) (sym (c .before .before .reaches .ensures) ∙ not-true _ (c .before .if2 .taken)) (c .ended2 .ensures)
 
 add-element-requires : tie.Need-add-element-requires
 add-element-requires c κs = let s = c .before .before .before .before .before .before .before .before .before .before .before .before in (s .pre .0 .judged, (s .pre .0 .backed, (all-memory (viewOf (s .args .view .now)) (s .args .block) (s .args .plugged .now) _ _ (sym (c .before .before .before .reaches .ensures) ∙ not-false _ (c .before .before .if2 .left)), s .pre .1)))
-
-same-length : tie.Need-same-length
-same-length c = search needs
-
-same-length-2 : tie.Need-same-length-2
-same-length-2 c = search needs
 
 returns-3 : tie.Need-returns-3
 returns-3 c = visits-added _ _ _ _ _ _ _ (sym (c .before .before .before .before .before .before .before .before .before .before .before .is-misplaced .ensures) ∙ c .before .before .before .before .before .before .before .before .before .before .if1 .left) (sym (c .before .before .before .before .before .before .before .before .reaches .ensures) ∙ not-false _ (c .before .before .before .before .before .before .before .if2 .left)) (c .before .before .before .before .add-element .ensures .1) (c .before .before .before .before .add-element .ensures .0)
@@ -44,15 +29,5 @@ returns-3 c = visits-added _ _ _ _ _ _ _ (sym (c .before .before .before .before
 pub visit-spec : {M : Type 1} → statement M
 visit-spec =
     tie.close
-    (tie.spec
-    is-misplaced-requires
-    ended-requires
-    returns
-    near-requires
-    reaches-requires
-    ended-requires-2
-    returns-2
-    add-element-requires
-    same-length
-    same-length-2
-    returns-3)
+    (tie.spec (λ c κs. search needs) (λ c κs. search needs) returns near-requires reaches-requires (λ c κs. search needs) returns-2
+    add-element-requires (λ c. search needs) (λ c. search needs) returns-3)

@@ -15,9 +15,6 @@ use Rattle.virtqueue.proofs.in_place.step_in_place.Tie as tie
 facts : (c : tie.Then1) → (let a = c .before .before .before .before .before .before .args in RecordFacts (viewOf (a .view .now)) (deviceOf (a .device .now)) (a .queue) (length (a .mem .now)))
 facts c = records-facts _ _ _ _ (sym (c .before .records-ok .ensures) ∙ c .if1 .taken) (omega (arith, c .before .before .before .before .before .before .good))
 
-records-ok-requires : tie.Need-records-ok-requires
-records-ok-requires c κs = search needs
-
 near-requires : tie.Need-near-requires
 near-requires c κs = ordered-judged (c .before .before .before .before .before .before .args .view .now) (facts c .ordered)
 
@@ -25,20 +22,11 @@ step-judged-requires : tie.Need-step-judged-requires
 step-judged-requires c κs = let a = c .before .before .before .before .before .before .before .before .before .args in
     let f = facts (c .before .before .before) in
     let w = eqb-true (length (a .device .now)) 37 (full (viewOf (a .view .now)) (a .device .now) (a .queue) (length (a .mem .now)) (sym (c .before .before .before .before .records-ok .ensures) ∙ c .before .before .before .if1 .taken)) in
-    (ordered-judged (a .view .now) (f .ordered), (f .backed, ((w, f .device), f .queue)))
-
-same-length : tie.Need-same-length
-same-length c = search needs
-
-same-length-2 : tie.Need-same-length-2
-same-length-2 c = search needs
+    record { judged = ordered-judged (a .view .now) (f .ordered); backed = f .backed; words = w; valid = f .device; queue = f .queue }
 
 returns : tie.Need-returns
 returns c = let a = c .before .before .before .before .before .before .before .before .before .before .before .before .before .before .args in
     step-judged (viewOf (a .view .now)) (a .device .now) (a .queue) (a .mem .now) (sym (c .before .before .before .before .before .before .before .before .before .records-ok .ensures) ∙ c .before .before .before .before .before .before .before .before .if1 .taken) (c .before .before .before .before .step-judged .result) _ _ (c .before .before .before .before .step-judged .ensures)
-
-same-length-3 : tie.Need-same-length-3
-same-length-3 c = search needs
 
 returns-2 : tie.Need-returns-2
 returns-2 c = let a = c .before .before .before .before .before .before .args in step-refused (viewOf (a .view .now)) (a .device .now) (a .queue) (a .mem .now) (sym (c .before .records-ok .ensures) ∙ c .if1 .left)
@@ -46,12 +34,5 @@ returns-2 c = let a = c .before .before .before .before .before .before .args in
 pub step-in-place-spec : {M : Type 1} → statement M
 step-in-place-spec =
     tie.close
-    (tie.spec
-    records-ok-requires
-    near-requires
-    step-judged-requires
-    same-length
-    same-length-2
-    returns
-    same-length-3
-    returns-2)
+    (tie.spec (λ c κs. search needs) near-requires step-judged-requires (λ c. search needs) (λ c. search needs) returns
+    (λ c. search needs) returns-2)

@@ -3,14 +3,8 @@ use borrow.Author.Needs.{needs}
 use Rattle.virtqueue.proofs.queue.area_ok.Statement.{statement}
 use Rattle.virtqueue.proofs.queue.area_ok.Tie as tie
 
-rem-result : tie.Need-rem-result
-rem-result c = search needs
-
-sum-within-requires : tie.Need-sum-within-requires
-sum-within-requires c κs = search needs
-
 returns : tie.Need-returns
 returns c = rw (c .sum-within .ensures)
 
 pub area-ok-spec : {M : Type 1} → statement M
-area-ok-spec = tie.close (tie.spec rem-result sum-within-requires returns)
+area-ok-spec = tie.close (tie.spec (λ c. search needs) (λ c κs. search needs) returns)

@@ -5,19 +5,13 @@ use Rattle.virtqueue.specs.Queue.{made}
 use Rattle.virtqueue.proofs.queue.make_queue.Statement.{statement}
 use Rattle.virtqueue.proofs.queue.make_queue.Tie as tie
 
-areas-ok-requires : tie.Need-areas-ok-requires
-areas-ok-requires c κs = search needs
-
 returns : tie.Need-returns
 unfolding made
 returns c = rw (sym (c .before .areas-ok .ensures) ∙ c .if1 .taken)
-
-no-queue-requires : tie.Need-no-queue-requires
-no-queue-requires c κs = search needs
 
 returns-2 : tie.Need-returns-2
 unfolding made
 returns-2 c = rw (sym (c .before .before .areas-ok .ensures) ∙ c .before .if1 .left, c .no-queue .ensures)
 
 pub make-queue-spec : {M : Type 1} → statement M
-make-queue-spec = tie.close (tie.spec areas-ok-requires returns no-queue-requires returns-2)
+make-queue-spec = tie.close (tie.spec (λ c κs. search needs) returns (λ c κs. search needs) returns-2)

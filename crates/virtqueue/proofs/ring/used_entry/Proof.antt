@@ -5,14 +5,8 @@ use borrow.Author.Needs.{needs}
 use Rattle.virtqueue.proofs.ring.used_entry.Statement.{statement}
 use Rattle.virtqueue.proofs.ring.used_entry.Tie as tie
 
-rem-slot : tie.Need-rem-slot
-rem-slot c = search needs
-
 cast-slot : tie.Need-cast-slot
 cast-slot c = omega (arith, mod-lt (c .args .count) (c .pre .1), c .fits)
-
-add-t6 : tie.Need-add-t6
-add-t6 c = search needs
 
 mul-t7 : tie.Need-mul-t7
 mul-t7 c = omega (arith, mod-lt (c .before .args .count) (c .before .pre .1), c .before .fits)
@@ -20,8 +14,5 @@ mul-t7 c = omega (arith, mod-lt (c .before .args .count) (c .before .pre .1), c 
 add-t8 : tie.Need-add-t8
 add-t8 c = omega (arith, mod-lt (c .before .args .count) (c .before .pre .1), c .before .fits, c .before .pre .0)
 
-returns : tie.Need-returns
-returns c = search needs
-
 pub used-entry-spec : {M : Type 1} → statement M
-used-entry-spec = tie.close (tie.spec rem-slot cast-slot add-t6 mul-t7 add-t8 returns)
+used-entry-spec = tie.close (tie.spec (λ c. search needs) cast-slot (λ c. search needs) mul-t7 add-t8 (λ c. search needs))

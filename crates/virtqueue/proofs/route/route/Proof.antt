@@ -15,14 +15,8 @@ use Rattle.virtqueue.proofs.RouteAllLaws.{block-big, table-words, view-
 use Rattle.virtqueue.proofs.route.route.Statement.{statement}
 use Rattle.virtqueue.proofs.route.route.Tie as tie
 
-device-ok-requires : tie.Need-device-ok-requires
-device-ok-requires c κs = search needs
-
 region-size-requires : tie.Need-region-size-requires
 region-size-requires c κs = ok-length (c .before .before .before .before .args .device .now) (c .before .device-ok .result) (c .before .device-ok .ensures) (c .if1 .taken)
-
-view-ok-requires : tie.Need-view-ok-requires
-view-ok-requires c κs = search needs
 
 block-size-requires : tie.Need-block-size-requires
 block-size-requires c κs = ok-length (c .before .before .before .before .before .before .before .args .device .now) (c .before .before .before .before .device-ok .result) (c .before .before .before .before .device-ok .ensures) (c .before .before .before .if1 .taken)
@@ -71,4 +65,7 @@ returns-3 c =
     refused-with v (a .memory-length) d (device-off v (a .memory-length) d (not-device (a .device .now) (c .before .device-ok .result) (c .before .device-ok .ensures) (c .if1 .left))) (a .address .0) (a .width)
 
 pub route-spec : {M : Type 1} → statement M
-route-spec = tie.close (tie.spec device-ok-requires region-size-requires view-ok-requires block-size-requires plugged-requires route-judged-requires returns returns-2 returns-3)
+route-spec =
+    tie.close
+    (tie.spec (λ c κs. search needs) region-size-requires (λ c κs. search needs) block-size-requires plugged-requires
+    route-judged-requires returns returns-2 returns-3)

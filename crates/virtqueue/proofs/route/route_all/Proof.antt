@@ -15,17 +15,8 @@ use Rattle.virtqueue.proofs.RouteAllLaws.{all-refused, block-big, table
 use Rattle.virtqueue.proofs.route.route_all.Statement.{statement}
 use Rattle.virtqueue.proofs.route.route_all.Tie as tie
 
-device-ok-requires : tie.Need-device-ok-requires
-device-ok-requires c κs = search needs
-
 region-size-requires : tie.Need-region-size-requires
 region-size-requires c κs = ok-length (c .before .before .before .before .before .before .args .device .now) (c .before .device-ok .result) (c .before .device-ok .ensures) (c .if1 .taken)
-
-view-ok-requires : tie.Need-view-ok-requires
-view-ok-requires c κs = search needs
-
-answers-fit-requires : tie.Need-answers-fit-requires
-answers-fit-requires c κs = search needs
 
 -- what was told of the view and of the answers' words
 device : (c : tie.Then1) → deviceOk (deviceOf (c .before .before .before .before .before .before .args .device .now)) ≡ true
@@ -61,9 +52,6 @@ routes-judged-requires c κs =
       ((block-big w size ok (c .before .before .block-size .result) (c .before .before .block-size .ensures), table-words w size ok (c .before .plugged .result .now) (c .before .plugged .ensures)), fit (c .before .before .before)),
     )
 
-same-length : tie.Need-same-length
-same-length c = search needs
-
 returns : tie.Need-returns
 returns c =
     let a = c .before .before .before .before .before .before .before .before .before .before .before .before .before .before .before .before .before .args in
@@ -72,9 +60,6 @@ returns c =
     let ok = view-and-device v (a .memory-length) d (judged (c .before .before .before .before .before .before)) (device (c .before .before .before .before .before .before .before .before .before .before .before)) in
     let e = answered-with v (a .memory-length) d (c .before .before .before .before .before .block-size .result) (c .before .before .before .before .plugged .result .now) (c .before .before .before .before .before .block-size .ensures) (c .before .before .before .before .plugged .ensures) ok (a .accesses .now) (a .answers .now) (fit (c .before .before .before .before .before .before)) in
     (ap (λ (x : RoutedAll). x .number) (sym e), c .before .before .routes-judged .ensures ∙ ap (λ (x : RoutedAll). x .answers) (sym e))
-
-same-length-2 : tie.Need-same-length-2
-same-length-2 c = search needs
 
 returns-2 : tie.Need-returns-2
 returns-2 c =
@@ -95,4 +80,7 @@ returns-3 c =
     (ap (λ (x : RoutedAll). x .number) (sym e), ap (λ (x : RoutedAll). x .answers) (sym e))
 
 pub route-all-spec : {M : Type 1} → statement M
-route-all-spec = tie.close (tie.spec device-ok-requires region-size-requires view-ok-requires answers-fit-requires block-size-requires plugged-requires routes-judged-requires same-length returns same-length-2 returns-2 returns-3)
+route-all-spec =
+    tie.close
+    (tie.spec (λ c κs. search needs) region-size-requires (λ c κs. search needs) (λ c κs. search needs) block-size-requires
+    plugged-requires routes-judged-requires (λ c. search needs) returns (λ c. search needs) returns-2 returns-3)

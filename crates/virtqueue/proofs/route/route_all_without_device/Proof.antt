@@ -12,18 +12,9 @@ use Rattle.virtqueue.proofs.RouteAllLaws.{all-refused, answered-without
 use Rattle.virtqueue.proofs.route.route_all_without_device.Statement.{statement}
 use Rattle.virtqueue.proofs.route.route_all_without_device.Tie as tie
 
-view-ok-requires : tie.Need-view-ok-requires
-view-ok-requires c κs = search needs
-
-answers-fit-requires : tie.Need-answers-fit-requires
-answers-fit-requires c κs = search needs
-
 -- what was told of the view and of the answers' words
 told : (c : tie.After-answers-fit) → (c .before .before .view-ok .result && c .answers-fit .result) ≡ (viewOk (viewOf (c .before .before .before .before .before .before .args .view .now)) (c .before .before .before .before .before .before .args .memory-length) noRegionBound && answersFit (c .before .before .before .before .before .before .args .accesses .now) (c .before .before .before .before .before .before .args .answers .now))
 told c = ap₂ _&&_ (c .before .before .view-ok .ensures) (c .answers-fit .ensures)
-
-slice-aggregate-routes-judged : tie.Need-slice-aggregate-routes-judged
-slice-aggregate-routes-judged c = search needs
 
 routes-judged-requires : tie.Need-routes-judged-requires
 routes-judged-requires c κs =
@@ -33,17 +24,11 @@ routes-judged-requires c κs =
     let ok = sym (told (c .before .before .before)) ∙ c .before .before .if1 .taken in
     (view-judged (a .view .now) (a .memory-length) noRegionBound (and-fst v f ok) (let g = c .before .before .before .before .before .before .before .before .before .fits in omega arith), ((omega arith, refl), and-snd v f ok))
 
-same-length : tie.Need-same-length
-same-length c = search needs
-
 returns : tie.Need-returns
 returns c =
     let a = c .before .before .before .before .before .before .before .before .before .before .before .before .args in
     let e = answered-without (viewOf (a .view .now)) (a .memory-length) 4096 (a .accesses .now) (a .answers .now) (sym (told (c .before .before .before .before .before .before)) ∙ c .before .before .before .before .before .if1 .taken) in
     (ap (λ (x : RoutedAll). x .number) (sym e), c .before .before .routes-judged .ensures ∙ ap (λ (x : RoutedAll). x .answers) (sym e))
-
-same-length-2 : tie.Need-same-length-2
-same-length-2 c = search needs
 
 returns-2 : tie.Need-returns-2
 returns-2 c =
@@ -53,4 +38,7 @@ returns-2 c =
     (ap (λ (x : RoutedAll). x .number) (sym e), ap (λ (x : RoutedAll). x .answers) (sym e))
 
 pub route-all-without-device-spec : {M : Type 1} → statement M
-route-all-without-device-spec = tie.close (tie.spec view-ok-requires answers-fit-requires slice-aggregate-routes-judged routes-judged-requires same-length returns same-length-2 returns-2)
+route-all-without-device-spec =
+    tie.close
+    (tie.spec (λ c κs. search needs) (λ c κs. search needs) (λ c. search needs) routes-judged-requires (λ c. search needs) returns
+    (λ c. search needs) returns-2)

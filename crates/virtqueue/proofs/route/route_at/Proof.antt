@@ -17,9 +17,6 @@ use Rattle.virtqueue.proofs.ViewWords.{read-broken, read-port, read-unp
 use Rattle.virtqueue.proofs.route.route_at.Statement.{statement}
 use Rattle.virtqueue.proofs.route.route_at.Tie as tie
 
-width-ok-requires : tie.Need-width-ok-requires
-width-ok-requires c κs = search needs
-
 returns : tie.Need-returns
 returns c =
     let a = c .before .before .before .before .args in
@@ -86,4 +83,7 @@ returns-6 c =
     (c .before .before .before .if4 .left) (⊎-elim (λ t e. sym (t .1 .ensures) ∙ not-false _ (t .2 .left)) (λ t e. absurd (t .left e)) (c .before .if5 .came))
 
 pub route-at-spec : {M : Type 1} → statement M
-route-at-spec = tie.close (tie.spec width-ok-requires returns count-of-requires returns-2 is-whole-requires returns-3 range-at-requires offset-in-requires returns-4 blocks-plugged-requires returns-5 place-of-requires returns-6)
+route-at-spec =
+    tie.close
+    (tie.spec (λ c κs. search needs) returns count-of-requires returns-2 is-whole-requires returns-3 range-at-requires offset-in-requires
+    returns-4 blocks-plugged-requires returns-5 place-of-requires returns-6)

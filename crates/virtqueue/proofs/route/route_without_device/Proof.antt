@@ -11,12 +11,6 @@ use Rattle.virtqueue.proofs.RouteAllLaws.{refused-without, judged-witho
 use Rattle.virtqueue.proofs.route.route_without_device.Statement.{statement}
 use Rattle.virtqueue.proofs.route.route_without_device.Tie as tie
 
-view-ok-requires : tie.Need-view-ok-requires
-view-ok-requires c κs = search needs
-
-slice-aggregate-route-judged : tie.Need-slice-aggregate-route-judged
-slice-aggregate-route-judged c = search needs
-
 route-judged-requires : tie.Need-route-judged-requires
 route-judged-requires c κs =
     let s = c .before .before .before .before in
@@ -34,4 +28,4 @@ returns-2 c =
     refused-without (viewOf (a .view .now)) (a .memory-length) (sym (c .before .view-ok .ensures) ∙ c .if1 .left) (a .address .0) (a .width)
 
 pub route-without-device-spec : {M : Type 1} → statement M
-route-without-device-spec = tie.close (tie.spec view-ok-requires slice-aggregate-route-judged route-judged-requires returns returns-2)
+route-without-device-spec = tie.close (tie.spec (λ c κs. search needs) (λ c. search needs) route-judged-requires returns returns-2)

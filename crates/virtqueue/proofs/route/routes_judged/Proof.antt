@@ -34,27 +34,6 @@ loop-holds c =
     let s = c .before .before .before .before in
     (answers-start (one (s .args .view .now) (s .args .block) (s .args .plugged .now)) (s .args .accesses .now) (s .args .answers .now) (length (s .args .accesses .now) / 2) (size s), omega arith, refl)
 
-mul-w : tie.Need-mul-w Inv-loop μ-loop
-mul-w c = search needs
-
-mul-w-2 : tie.Need-mul-w-2 Inv-loop μ-loop
-mul-w-2 c = search needs
-
-shared-slice-read-w : tie.Need-shared-slice-read-w Inv-loop μ-loop
-shared-slice-read-w c = search needs
-
-mul-w-3 : tie.Need-mul-w-3 Inv-loop μ-loop
-mul-w-3 c = search needs
-
-add-w : tie.Need-add-w Inv-loop μ-loop
-add-w c = search needs
-
-mul-w-4 : tie.Need-mul-w-4 Inv-loop μ-loop
-mul-w-4 c = search needs
-
-shared-slice-read-w-2 : tie.Need-shared-slice-read-w-2 Inv-loop μ-loop
-shared-slice-read-w-2 c = search needs
-
 near-requires : tie.Need-near-requires Inv-loop μ-loop
 near-requires c κs = c .before .before .before .before .before .before .before .before .pre .0
 
@@ -63,9 +42,6 @@ route-at-requires c κs = (c .before .before .before .before .before .before .be
 
 put-answer-requires : tie.Need-put-answer-requires Inv-loop μ-loop
 put-answer-requires c κs = omega (arith, c .before .before .before .before .before .loop-test .taken, c .before .before .before .before .before .before .loop .inv .2, size (c .before .before .before .before .before .before .before .before .before .before .before))
-
-add-i : tie.Need-add-i Inv-loop μ-loop
-add-i c = search needs
 
 loop-less : tie.Need-loop-less Inv-loop μ-loop
 loop-less c = omega (arith, c .before .before .before .before .before .before .before .before .loop-test .taken)
@@ -93,4 +69,8 @@ returns c =
     sym (answers-end (one (s .args .view .now) (s .args .block) (s .args .plugged .now)) (s .args .accesses .now) (l .answers) (4 * l .i) (l .i) (length (s .args .accesses .now) / 2) (c .loop-test .left)) ∙ l .inv .0
 
 pub routes-judged-spec : {M : Type 1} → statement M
-routes-judged-spec = tie.close (tie.spec Inv-loop μ-loop loop-holds mul-w mul-w-2 shared-slice-read-w mul-w-3 add-w mul-w-4 shared-slice-read-w-2 near-requires route-at-requires put-answer-requires add-i loop-less loop-again same-length returns)
+routes-judged-spec =
+    tie.close
+    (tie.spec Inv-loop μ-loop loop-holds (λ c. search needs) (λ c. search needs) (λ c. search needs) (λ c. search needs)
+    (λ c. search needs) (λ c. search needs) (λ c. search needs) near-requires route-at-requires put-answer-requires (λ c. search needs)
+    loop-less loop-again same-length returns)

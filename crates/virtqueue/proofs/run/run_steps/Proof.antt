@@ -54,8 +54,11 @@ records-ok-requires c κs = tt
 same-length : tie.Need-same-length Inv-loop μ-loop
 same-length c = refl
 
+refused-run-requires : tie.Need-refused-run-requires Inv-loop μ-loop
+refused-run-requires c κs = tt
+
 returns : tie.Need-returns Inv-loop μ-loop
-returns c = let a = c .before .before .before .before .before .before .args in run-refused-all (viewOf (a .view .now)) (a .device .now) (a .queue) (a .mem .now) (a .k) (sym (c .before .records-ok .ensures) ∙ not-true (c .before .records-ok .result) (c .if1 .taken))
+returns c = let a = c .before .before .before .before .before .before .before .args in rw (c .refused-run .ensures) (run-refused-all (viewOf (a .view .now)) (a .device .now) (a .queue) (a .mem .now) (a .k) (sym (c .before .before .records-ok .ensures) ∙ not-true (c .before .before .records-ok .result) (c .before .if1 .taken)))
 
 least-requires : tie.Need-least-requires Inv-loop μ-loop
 least-requires c κs = tt
@@ -67,7 +70,7 @@ loop-holds : tie.Need-loop-holds Inv-loop μ-loop
 loop-holds c = let f = facts (c .before .before) in (run-starts _ _ _ _ _ (whole (c .before .before)) (f .device) (f .queue), refl)
 
 step-judged-requires : tie.Need-step-judged-requires Inv-loop μ-loop
-step-judged-requires c κs = let f = facts (c .before .before .before .before .before .before) in let r = c .before .before .before .loop .inv .0 in (words (c .before .before .before .before .before .before), (rw (r .same) (f .backed), ((r .words, r .device), r .queue)))
+step-judged-requires c κs = let f = facts (c .before .before .before .before .before .before) in let r = c .before .before .before .loop .inv .0 in record { judged = words (c .before .before .before .before .before .before); backed = rw (r .same) (f .backed); words = r .words; valid = r .device; queue = r .queue }
 
 enum-known-outcome : tie.Need-enum-known-outcome Inv-loop μ-loop
 enum-known-outcome c = c .match .keys1
@@ -124,6 +127,7 @@ run-steps-spec =
     Inv-loop
     μ-loop
     records-ok-requires
+    refused-run-requires
     same-length
     returns
     least-requires

@@ -9,23 +9,8 @@ use borrow.Author.Needs.{needs}
 use Rattle.virtqueue.proofs.serve.serve.Statement.{statement}
 use Rattle.virtqueue.proofs.serve.serve.Tie as tie
 
-respond-requires : tie.Need-respond-requires
-respond-requires c κs = search needs
-
-slice-aggregate-write-bytes : tie.Need-slice-aggregate-write-bytes
-slice-aggregate-write-bytes c = search needs
-
-write-bytes-requires : tie.Need-write-bytes-requires
-write-bytes-requires c κs = search needs
-
 write-bytes-requires-2 : tie.Need-write-bytes-requires-2
 write-bytes-requires-2 c κs = let s = c .before .before .before .before .before .before .before .before .before .before .before .before .before .before .before in (within-moved _ _ _ _ refl (c .before .before .before .write-bytes .kept .0) (s .pre .1 .1 .1), s .pre .1 .1 .0)
-
-same-length : tie.Need-same-length
-same-length c = search needs
-
-same-length-2 : tie.Need-same-length-2
-same-length-2 c = search needs
 
 returns : tie.Need-returns
 unfolding carrying
@@ -38,11 +23,5 @@ returns c = let a = c .before .before .before .before .before .before .before .b
 pub serve-spec : {M : Type 1} → statement M
 serve-spec =
     tie.close
-    (tie.spec
-    respond-requires
-    slice-aggregate-write-bytes
-    write-bytes-requires
-    write-bytes-requires-2
-    same-length
-    same-length-2
-    returns)
+    (tie.spec (λ c κs. search needs) (λ c. search needs) (λ c κs. search needs) write-bytes-requires-2 (λ c. search needs)
+    (λ c. search needs) returns)

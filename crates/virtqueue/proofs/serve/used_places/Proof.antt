@@ -38,36 +38,15 @@ used-entry-requires c κs = let f = queue-facts (c .before .before .args .queue)
 used-idx-requires : tie.Need-used-idx-requires
 used-idx-requires c κs = omega (arith, queue-facts (c .before .before .before .args .queue) (c .before .before .before .pre .1 .0) .used)
 
-sub-find-places : tie.Need-sub-find-places
-sub-find-places c = search needs
-
-part-find-places-start : tie.Need-part-find-places-start
-part-find-places-start c = search needs
-
-part-find-places-end : tie.Need-part-find-places-end
-part-find-places-end c = search needs
-
 find-places-requires : tie.Need-find-places-requires
 find-places-requires c κs = let s = c .before .before .before .before .before in
     let x = s .args .out .now in
     (s .pre .0, memory-as (viewOf (s .args .view .now)) _ _ _ 8 (c .before .before .used-entry .ensures) (omega (arith, length-take 8 (drop 0 x), length-drop 0 x, s .pre .1 .1 .1)) (s .pre .1 .1 .0 .entry))
 
-sub-find-places-2 : tie.Need-sub-find-places-2
-sub-find-places-2 c = search needs
-
-part-find-places-start-2 : tie.Need-part-find-places-start-2
-part-find-places-start-2 c = search needs
-
-part-find-places-end-2 : tie.Need-part-find-places-end-2
-part-find-places-end-2 c = search needs
-
 find-places-requires-2 : tie.Need-find-places-requires-2
 find-places-requires-2 c κs = let s = c .before .before .before .before .before .before .before .before .before in
     let x = stored (c .before .before .before) in
     (s .pre .0, memory-as (viewOf (s .args .view .now)) _ _ _ 2 (c .before .before .before .before .before .used-idx .ensures) (omega (arith, length-take 2 (drop 8 x), length-drop 8 x, full (c .before .before .before))) (s .pre .1 .1 .0 .idx))
-
-same-length : tie.Need-same-length
-same-length c = search needs
 
 returns : tie.Need-returns
 returns c = let s = c .before .before .before .before .before .before .before .before .before .before .before .before in
@@ -80,16 +59,5 @@ returns c = let s = c .before .before .before .before .before .before .before .b
 pub used-places-spec : {M : Type 1} → statement M
 used-places-spec =
     tie.close
-    (tie.spec
-    used-entry-requires
-    used-idx-requires
-    sub-find-places
-    part-find-places-start
-    part-find-places-end
-    find-places-requires
-    sub-find-places-2
-    part-find-places-start-2
-    part-find-places-end-2
-    find-places-requires-2
-    same-length
-    returns)
+    (tie.spec used-entry-requires used-idx-requires (λ c. search needs) (λ c. search needs) (λ c. search needs) find-places-requires
+    (λ c. search needs) (λ c. search needs) (λ c. search needs) find-places-requires-2 (λ c. search needs) returns)

@@ -8,24 +8,6 @@ use borrow.Author.Needs.{needs}
 use Rattle.virtqueue.proofs.step.step.Statement.{statement}
 use Rattle.virtqueue.proofs.step.step.Tie as tie
 
-words-of-requires : tie.Need-words-of-requires
-words-of-requires c κs = search needs
-
-slice-aggregate-step-in-place : tie.Need-slice-aggregate-step-in-place
-slice-aggregate-step-in-place c = search needs
-
-step-in-place-requires : tie.Need-step-in-place-requires
-step-in-place-requires c κs = search needs
-
-slice-aggregate-device-of : tie.Need-slice-aggregate-device-of
-slice-aggregate-device-of c = search needs
-
-device-of-requires : tie.Need-device-of-requires
-device-of-requires c κs = search needs
-
-same-length : tie.Need-same-length
-same-length c = search needs
-
 returns : tie.Need-returns
 returns c = let s = c .before .before .before .before .before .before .before .before .before .before .before .before in
     let d = recordOf (s .args .device) in
@@ -37,11 +19,5 @@ returns c = let s = c .before .before .before .before .before .before .before .b
 pub step-spec : {M : Type 1} → statement M
 step-spec =
     tie.close
-    (tie.spec
-    words-of-requires
-    slice-aggregate-step-in-place
-    step-in-place-requires
-    slice-aggregate-device-of
-    device-of-requires
-    same-length
-    returns)
+    (tie.spec (λ c κs. search needs) (λ c. search needs) (λ c κs. search needs) (λ c. search needs) (λ c κs. search needs)
+    (λ c. search needs) returns)

@@ -19,7 +19,7 @@ returns : tie.Need-returns
 returns c = subst (TakesOffer (c .before .before .before .before .before .before) _ _ _) (sym (offered-stopped _ _ _ (c .if1 .taken))) refl
 
 notices-requires : tie.Need-notices-requires
-notices-requires c κs = let s = c .before .before .before .before .before .before in (s .pre .0, s .pre .1 .0)
+notices-requires c κs = let s = c .before .before .before .before .before .before in (s .pre .lent, s .pre .queue)
 
 enum-known-k : tie.Need-enum-known-k
 enum-known-k c = c .match .keys1
@@ -31,7 +31,7 @@ enum-known-notify : tie.Need-enum-known-notify
 enum-known-notify c = c .match .keys3
 
 head-requires : tie.Need-head-requires
-head-requires c κs = let s = c .before .before .before .before .before .before .before .before .before .before in (s .pre .0, s .pre .1 .0)
+head-requires c κs = let s = c .before .before .before .before .before .before .before .before .before .before in (s .pre .lent, s .pre .queue)
 
 enum-known-k-2 : tie.Need-enum-known-k-2
 enum-known-k-2 c = c .match2 .keys1
@@ -41,7 +41,7 @@ enum-known-h c = c .match2 .keys2
 
 take-chain-requires : tie.Need-take-chain-requires
 take-chain-requires c κs = let s = c .before .before .before .before .before .before .before .before .before .before .before .before .before .before .before .before in
-    (s .pre .0, (s .pre .1 .0, (head-low _ _ _ _ (sym (c .before .before .before .before .before .head .ensures) ∙ c .before .before .before .h .given .1), s .pre .1 .1)))
+    (s .pre, head-low _ _ _ _ (sym (c .before .before .before .before .before .head .ensures) ∙ c .before .before .before .h .given .1))
 
 returns-2 : tie.Need-returns-2
 returns-2 c = subst (TakesOffer (c .before .before .before .before .before .before .before .before .before .before) _ _ _) (sym (offered-notices _ _ _ _ (c .before .before .before .before .if1 .left) (sym (c .before .before .before .notices .ensures) ∙ c .before .k .given .1))) refl
@@ -53,12 +53,6 @@ returns-4 : tie.Need-returns-4
 returns-4 c = subst (TakesOffer (c .before .before .before .before .before .before .before .before .before .before .before .before .before .before) _ _ _)
     (sym (offered-head _ _ _ _ _ (c .before .before .before .before .before .before .before .before .if1 .left) (sym (c .before .before .before .before .before .before .before .notices .ensures) ∙ c .before .before .before .before .before .notify .given .1) (sym (c .before .before .before .head .ensures) ∙ c .before .k2 .given .1))) refl
 
-same-length : tie.Need-same-length
-same-length c = search needs
-
-same-length-2 : tie.Need-same-length-2
-same-length-2 c = search needs
-
 returns-5 : tie.Need-returns-5
 returns-5 c = subst (TakesOffer (c .before .before .before .before .before .before .before .before .before .before .before .before .before .before .before .before .before .before .before .before .before) _ _ _)
     (sym (offered-head _ _ _ _ _ (c .before .before .before .before .before .before .before .before .before .before .before .before .before .before .before .if1 .left) (sym (c .before .before .before .before .before .before .before .before .before .before .before .before .before .before .notices .ensures) ∙ c .before .before .before .before .before .before .before .before .before .before .before .before .notify .given .1) (sym (c .before .before .before .before .before .before .before .before .before .before .head .ensures) ∙ c .before .before .before .before .before .before .before .before .h .given .1))) (c .before .before .before .before .take-chain .ensures)
@@ -66,19 +60,5 @@ returns-5 c = subst (TakesOffer (c .before .before .before .before .before .befo
 pub take-spec : {M : Type 1} → statement M
 take-spec =
     tie.close
-    (tie.spec
-    returns
-    notices-requires
-    enum-known-k
-    enum-told
-    enum-known-notify
-    head-requires
-    enum-known-k-2
-    enum-known-h
-    take-chain-requires
-    returns-2
-    returns-3
-    returns-4
-    same-length
-    same-length-2
-    returns-5)
+    (tie.spec returns notices-requires enum-known-k enum-told enum-known-notify head-requires enum-known-k-2 enum-known-h
+    take-chain-requires returns-2 returns-3 returns-4 (λ c. search needs) (λ c. search needs) returns-5)

@@ -29,50 +29,26 @@ abbrev chain : tie.Start → Chain
 chain s = chainOf (guest s) (s .args .mem .now) (s .args .queue) (s .args .head)
 
 full-request : (c : tie.After-gather) → length (c .gather .last .1 .1 .1 .1 .1 .1 .1 .1 .0) ≡ 24
-full-request c = c .gather .kept .1 .1 .1 .1 .1 .1 .1 .1 .0 ∙ c .before .before .before .before .before .before .before .before .before .before .pre .1 .1 .1 .bytes
+full-request c = c .gather .kept .1 .1 .1 .1 .1 .1 .1 .1 .0 ∙ c .before .before .before .before .before .before .before .before .before .before .pre .0 .buffers .bytes
 
 full-places : (c : tie.After-gather) → length (c .gather .last .1 .1 .1 .1 .1 .1 .1 .1 .1 .0) ≡ 10
-full-places c = c .gather .kept .1 .1 .1 .1 .1 .1 .1 .1 .1 .0 ∙ c .before .before .before .before .before .before .before .before .before .before .pre .1 .1 .1 .room
+full-places c = c .gather .kept .1 .1 .1 .1 .1 .1 .1 .1 .1 .0 ∙ c .before .before .before .before .before .before .before .before .before .before .pre .0 .buffers .room
 
 its-shape : (c : tie.After-shape) → c .shape .result ≡ shapeOf (chain (c .before .before .before .before .before .before .before .before .before .before .before .before .before .before .before))
 its-shape c = c .shape .ensures ∙ gathered-shape _ _ _ _ _ _ (c .before .before .before .before .before .gather .ensures) (full-request (c .before .before .before .before .before)) (full-places (c .before .before .before .before .before))
 
-cast-size : tie.Need-cast-size
-cast-size c = search needs
-
 gather-requires : tie.Need-gather-requires
-gather-requires c κs = let s = c .before .before .before .before .before .before .before .before .before in let f = queue-facts (s .args .queue) (s .pre .1 .0) in
-    (s .pre .0, ((omega (arith, f .descriptors), f .most, s .pre .1 .1 .0), s .pre .1 .1 .1))
-
-shape-requires : tie.Need-shape-requires
-shape-requires c κs = search needs
-
-same-length : tie.Need-same-length
-same-length c = search needs
-
-same-length-2 : tie.Need-same-length-2
-same-length-2 c = search needs
+gather-requires c κs = let s = c .before .before .before .before .before .before .before .before .before in let f = queue-facts (s .args .queue) (s .pre .0 .queue) in
+    ((s .pre .0 .lent, s .pre .0 .buffers), (omega (arith, f .descriptors), f .most, s .pre .1))
 
 returns : tie.Need-returns
 returns c = subst (TakesChain (c .before .before .before .before .before .before .before .before .before .before .before .before .before .before .before .before) _ _ _) (sym (chain-ended _ _ _ _ _ (λ e. c .if1 .taken (its-shape (c .before) ∙ e)))) (ap offer.Stop (its-shape (c .before)))
 
 used-reached-requires : tie.Need-used-reached-requires
-used-reached-requires c κs = let s = c .before .before .before .before .before .before .before .before .before .before .before .before .before .before .before .before in (s .pre .0 .judged, ((s .pre .0 .some, s .pre .0 .table), s .pre .1 .0))
-
-same-length-3 : tie.Need-same-length-3
-same-length-3 c = search needs
-
-same-length-4 : tie.Need-same-length-4
-same-length-4 c = search needs
+used-reached-requires c κs = let s = c .before .before .before .before .before .before .before .before .before .before .before .before .before .before .before .before in (s .pre .0 .lent .judged, ((s .pre .0 .lent .some, s .pre .0 .lent .table), s .pre .0 .queue))
 
 returns-2 : tie.Need-returns-2
 returns-2 c = subst (TakesChain (c .before .before .before .before .before .before .before .before .before .before .before .before .before .before .before .before .before .before) _ _ _) (sym (chain-unused _ _ _ _ _ (sym (its-shape (c .before .before .before)) ∙ c .before .before .if1 .left) (sym (c .before .used-reached .ensures) ∙ not-true _ (c .if2 .taken)))) refl
-
-same-length-5 : tie.Need-same-length-5
-same-length-5 c = search needs
-
-same-length-6 : tie.Need-same-length-6
-same-length-6 c = search needs
 
 returns-3 : tie.Need-returns-3
 returns-3 c = let r = gathered-ready _ _ _ _ _ _ (c .before .before .before .before .before .before .before .before .gather .ensures) (full-request (c .before .before .before .before .before .before .before .before)) (full-places (c .before .before .before .before .before .before .before .before)) (sym (c .before .before .before .shape .ensures) ∙ c .before .before .if1 .left) in
@@ -81,17 +57,5 @@ returns-3 c = let r = gathered-ready _ _ _ _ _ _ (c .before .before .before .bef
 pub take-chain-spec : {M : Type 1} → statement M
 take-chain-spec =
     tie.close
-    (tie.spec
-    cast-size
-    gather-requires
-    shape-requires
-    same-length
-    same-length-2
-    returns
-    used-reached-requires
-    same-length-3
-    same-length-4
-    returns-2
-    same-length-5
-    same-length-6
-    returns-3)
+    (tie.spec (λ c. search needs) gather-requires (λ c κs. search needs) (λ c. search needs) (λ c. search needs) returns
+    used-reached-requires (λ c. search needs) (λ c. search needs) returns-2 (λ c. search needs) (λ c. search needs) returns-3)

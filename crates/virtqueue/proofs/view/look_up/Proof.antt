@@ -17,9 +17,6 @@ use Rattle.virtqueue.proofs.RouteLaws.{looked-record, looked-at, looked
 use Rattle.virtqueue.proofs.view.look_up.Statement.{statement}
 use Rattle.virtqueue.proofs.view.look_up.Tie as tie
 
-view-ok-requires : tie.Need-view-ok-requires
-view-ok-requires c κs = search needs
-
 -- the view keeps 27's rules
 ok : (c : tie.Then1) → viewOk (viewOf (c .before .before .before .args .view .now)) (c .before .before .before .args .memory-length) noRegionBound ≡ true
 ok c = sym (c .before .view-ok .ensures) ∙ c .if1 .taken
@@ -64,4 +61,6 @@ returns-3 c =
     sym (looked-record (viewOf (a .view .now)) (a .memory-length) (a .address .0) (sym (c .before .view-ok .ensures) ∙ c .if1 .left))
 
 pub look-up-spec : {M : Type 1} → statement M
-look-up-spec = tie.close (tie.spec view-ok-requires near-requires count-of-requires range-at-requires offset-in-requires returns returns-2 returns-3)
+look-up-spec =
+    tie.close
+    (tie.spec (λ c κs. search needs) near-requires count-of-requires range-at-requires offset-in-requires returns returns-2 returns-3)

@@ -4,9 +4,6 @@ use Rattle.wicktumble.proofs.QueueCalls.{given-put, given-kept}
 use Rattle.wicktumble.proofs.queues.put_given.Statement.{statement}
 use Rattle.wicktumble.proofs.queues.put_given.Tie as tie
 
-number-of-requires : tie.Need-number-of-requires
-number-of-requires c κs = search needs
-
 put-queue-requires : tie.Need-put-queue-requires
 put-queue-requires c κs = c .before .before .before .before .before .pre
 
@@ -25,5 +22,4 @@ returns-2 c =
     given-kept (a .given) (a .queue .now) (c .before .number-of .ensures) (c .if1 .left)
 
 pub put-given-spec : {M : Type 1} → statement M
-put-given-spec =
-    tie.close (tie.spec number-of-requires put-queue-requires same-length returns returns-2)
+put-given-spec = tie.close (tie.spec (λ c κs. search needs) put-queue-requires same-length returns returns-2)

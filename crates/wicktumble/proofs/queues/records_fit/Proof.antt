@@ -3,11 +3,8 @@ use borrow.Author.Needs.{needs}
 use Rattle.wicktumble.proofs.queues.records_fit.Statement.{statement}
 use Rattle.wicktumble.proofs.queues.records_fit.Tie as tie
 
-queue-fits-requires : tie.Need-queue-fits-requires
-queue-fits-requires c κs = search needs
-
 returns : tie.Need-returns
 returns c = simp (c .queue-fits .ensures)
 
 pub records-fit-spec : {M : Type 1} → statement M
-records-fit-spec = tie.close (tie.spec queue-fits-requires returns)
+records-fit-spec = tie.close (tie.spec (λ c κs. search needs) returns)

@@ -5,30 +5,6 @@ use Rattle.wicktumble.proofs.CallLaws.{says}
 use Rattle.wicktumble.proofs.queues.say_run.Statement.{statement}
 use Rattle.wicktumble.proofs.queues.say_run.Tie as tie
 
-flag-requires : tie.Need-flag-requires
-flag-requires c κs = search needs
-
-enum-told : tie.Need-enum-told
-enum-told c = search needs
-
-say-requires : tie.Need-say-requires
-say-requires c κs = search needs
-
-enum-told-2 : tie.Need-enum-told-2
-enum-told-2 c = search needs
-
-say-requires-2 : tie.Need-say-requires-2
-say-requires-2 c κs = search needs
-
-enum-known-end : tie.Need-enum-known-end
-enum-known-end c = search needs
-
-cast-say : tie.Need-cast-say
-cast-say c = search needs
-
-say-requires-3 : tie.Need-say-requires-3
-say-requires-3 c κs = search needs
-
 returns : tie.Need-returns
 returns c = says (c .say .ensures) ∙ rw (c .before .enum-told .given .1, c .before .before .before .flag .ensures)
 
@@ -41,15 +17,5 @@ returns-3 c = says (c .say3 .ensures) ∙ rw (c .before .before .end .given .1, 
 pub say-run-spec : {M : Type 1} → statement M
 say-run-spec =
     tie.close
-    (tie.spec
-    flag-requires
-    enum-told
-    say-requires
-    enum-told-2
-    say-requires-2
-    enum-known-end
-    cast-say
-    say-requires-3
-    returns
-    returns-2
-    returns-3)
+    (tie.spec (λ c κs. search needs) (λ c. search needs) (λ c κs. search needs) (λ c. search needs) (λ c κs. search needs)
+    (λ c. search needs) (λ c. search needs) (λ c κs. search needs) returns returns-2 returns-3)

@@ -4,24 +4,6 @@ use Rattle.wicktumble.proofs.CallLaws.{says}
 use Rattle.wicktumble.proofs.routes.say_look_up.Statement.{statement}
 use Rattle.wicktumble.proofs.routes.say_look_up.Tie as tie
 
-enum-known-found : tie.Need-enum-known-found
-enum-known-found c = search needs
-
-say-requires : tie.Need-say-requires
-say-requires c κs = search needs
-
-enum-told : tie.Need-enum-told
-enum-told c = search needs
-
-say-requires-2 : tie.Need-say-requires-2
-say-requires-2 c κs = search needs
-
-enum-told-2 : tie.Need-enum-told-2
-enum-told-2 c = search needs
-
-say-requires-3 : tie.Need-say-requires-3
-say-requires-3 c κs = search needs
-
 returns : tie.Need-returns
 returns c = rw (c .before .before .found .given .1) (says (c .say .ensures))
 
@@ -34,13 +16,5 @@ returns-3 c = rw (c .before .enum-told2 .given .1) (says (c .say3 .ensures))
 pub say-look-up-spec : {M : Type 1} → statement M
 say-look-up-spec =
     tie.close
-    (tie.spec
-    enum-known-found
-    say-requires
-    enum-told
-    say-requires-2
-    enum-told-2
-    say-requires-3
-    returns
-    returns-2
-    returns-3)
+    (tie.spec (λ c. search needs) (λ c κs. search needs) (λ c. search needs) (λ c κs. search needs) (λ c. search needs)
+    (λ c κs. search needs) returns returns-2 returns-3)

@@ -8,20 +8,11 @@ use Rattle.wicktumble.proofs.CallLaws.{taken, refused, result-fits, unt
 use Rattle.wicktumble.proofs.routes.wt_look_up.Statement.{statement}
 use Rattle.wicktumble.proofs.routes.wt_look_up.Tie as tie
 
-look-up-requires : tie.Need-look-up-requires
-look-up-requires c κs = search needs
-
-say-look-up-requires : tie.Need-say-look-up-requires
-say-look-up-requires c κs = search needs
-
 tell-requires : tie.Need-tell-requires
 tell-requires c κs =
     let s = c .before .before .before in
     let a = s .before .before .before .args in
     result-fits (isView (a .view .now)) (a .result .now) (s .if1 .taken)
-
-same-length : tie.Need-same-length
-same-length c = search needs
 
 returns : tie.Need-returns
 unfolding lookUpCall
@@ -34,6 +25,4 @@ unfolding lookUpCall
 returns-2 c = untold-as (refused _ _ (c .if1 .left))
 
 pub wt-look-up-spec : {M : Type 1} → statement M
-wt-look-up-spec =
-    tie.close
-    (tie.spec look-up-requires say-look-up-requires tell-requires same-length returns returns-2)
+wt-look-up-spec = tie.close (tie.spec (λ c κs. search needs) (λ c κs. search needs) tell-requires (λ c. search needs) returns returns-2)

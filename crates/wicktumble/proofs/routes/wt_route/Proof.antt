@@ -11,21 +11,12 @@ use Rattle.wicktumble.proofs.CallLaws.{taken, refused, result-fits, unt
 use Rattle.wicktumble.proofs.routes.wt_route.Statement.{statement}
 use Rattle.wicktumble.proofs.routes.wt_route.Tie as tie
 
-route-by-requires : tie.Need-route-by-requires
-route-by-requires c κs = search needs
-
-say-route-requires : tie.Need-say-route-requires
-say-route-requires c κs = search needs
-
 tell-requires : tie.Need-tell-requires
 tell-requires c κs =
     let s = c .before .before .before in
     let a = s .before .before .before .before .args in
     let known = noDevice (a .device .now) || isDevice (a .device .now) in
     result-fits known (a .result .now) (and-snd (isView (a .view .now)) (known && isResult (a .result .now)) (s .if1 .taken))
-
-same-length : tie.Need-same-length
-same-length c = search needs
 
 returns : tie.Need-returns
 unfolding routeCall
@@ -38,6 +29,4 @@ unfolding routeCall
 returns-2 c = untold-as (refused _ _ (c .if1 .left))
 
 pub wt-route-spec : {M : Type 1} → statement M
-wt-route-spec =
-    tie.close
-    (tie.spec route-by-requires say-route-requires tell-requires same-length returns returns-2)
+wt-route-spec = tie.close (tie.spec (λ c κs. search needs) (λ c κs. search needs) tell-requires (λ c. search needs) returns returns-2)

@@ -9,24 +9,12 @@ use Rattle.wicktumble.proofs.CallLaws.{taken, refused}
 use Rattle.wicktumble.proofs.routes.wt_route_all.Statement.{statement}
 use Rattle.wicktumble.proofs.routes.wt_route_all.Tie as tie
 
-route-all-without-device-requires : tie.Need-route-all-without-device-requires
-route-all-without-device-requires c κs = search needs
-
-same-length : tie.Need-same-length
-same-length c = search needs
-
 returns : tie.Need-returns
 unfolding routeAllCall
 returns c =
     let s = c .before .before in
     let e = taken _ _ (eq-eqb (length (s .before .before .before .before .before .before .before .args .device .now)) 0 (s .before .before .if1 .taken)) in
     (s .route-all-without-device .ensures .0 ∙ ap (λ (y : RoutedAll). y .number) e, s .route-all-without-device .ensures .1 ∙ ap (λ (y : RoutedAll). y .answers) e)
-
-route-all-requires : tie.Need-route-all-requires
-route-all-requires c κs = search needs
-
-same-length-2 : tie.Need-same-length-2
-same-length-2 c = search needs
 
 returns-2 : tie.Need-returns-2
 unfolding routeAllCall
@@ -38,10 +26,4 @@ returns-2 c =
 pub wt-route-all-spec : {M : Type 1} → statement M
 wt-route-all-spec =
     tie.close
-    (tie.spec
-    route-all-without-device-requires
-    same-length
-    returns
-    route-all-requires
-    same-length-2
-    returns-2)
+    (tie.spec (λ c κs. search needs) (λ c. search needs) returns (λ c κs. search needs) (λ c. search needs) returns-2)

@@ -4,15 +4,9 @@ use Rattle.virtqueue.specs.Queue.{queueOk}
 use Rattle.virtqueue.proofs.queue.SplitQueue.keeps_rules.Statement.{statement}
 use Rattle.virtqueue.proofs.queue.SplitQueue.keeps_rules.Tie as tie
 
-areas-ok-requires : tie.Need-areas-ok-requires
-areas-ok-requires c κs = search needs
-
-stop-ok-requires : tie.Need-stop-ok-requires
-stop-ok-requires c κs = search needs
-
 returns : tie.Need-returns
 unfolding queueOk
 returns c = rw (c .before .areas-ok .ensures, c .stop-ok .ensures)
 
 pub keeps-rules-spec : {M : Type 1} → statement M
-keeps-rules-spec = tie.close (tie.spec areas-ok-requires stop-ok-requires returns)
+keeps-rules-spec = tie.close (tie.spec (λ c κs. search needs) (λ c κs. search needs) returns)

@@ -5,9 +5,6 @@ use Rattle.virtqueue.specs.Queue.{wasReset}
 use Rattle.virtqueue.proofs.queue.SplitQueue.reset.Statement.{statement}
 use Rattle.virtqueue.proofs.queue.SplitQueue.reset.Tie as tie
 
-keeps-rules-requires : tie.Need-keeps-rules-requires
-keeps-rules-requires c κs = search needs
-
 returns : tie.Need-returns
 unfolding wasReset
 returns c = rw (sym (c .before .keeps-rules .ensures) ∙ c .if1 .taken)
@@ -17,4 +14,4 @@ unfolding wasReset
 returns-2 c = rw (sym (c .before .keeps-rules .ensures) ∙ c .if1 .left)
 
 pub reset-spec : {M : Type 1} → statement M
-reset-spec = tie.close (tie.spec keeps-rules-requires returns returns-2)
+reset-spec = tie.close (tie.spec (λ c κs. search needs) returns returns-2)
