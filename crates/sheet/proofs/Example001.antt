@@ -1,44 +1,14 @@
 -- Document 01's sheet of the map of source 001 reads as its five regions D, E, B, C, A. Assumes nothing.
 use mathlib.Core.Path.{_≡_, refl}
-use mathlib.Core.List.{List, [], _∷_}
-use Prim.Native.Nat.{ℕ}
-use lib.ListN.{replicate}
-use Rattle.map_records.specs.Map.{container, mmio, noRegion}
 use Rattle.region_map.specs.Fault.{parentFault, linkFault}
 use Rattle.region_map.specs.Clash.{siblingClash}
 use Rattle.region_map.specs.Reply.{accepted, first, lowest, pairsOf, firstPair}
 use Rattle.region_map.specs.Check.{judged}
-use Rattle.map_records.specs.declared.map.Region.{Region}
-use Rattle.map_records.specs.declared.map.RegionMap.{RegionMap}
 use Rattle.sheet.specs.Number.{groups}
 use Rattle.sheet.specs.Region.{fieldAt, fieldsFrom, regionAt}
 use Rattle.sheet.specs.Sheet.{regionsFrom, mapAt, readSheet}
-
-pub sheet001 : List ℕ
-sheet001 =
-    0x05 ∷ 0x02 ∷ 0x03 ∷ 0x00 ∷ 0x80 ∷ 0x20 ∷ 0x00 ∷ 0x04 ∷ 0x02 ∷ 0x03 ∷ 0x80 ∷ 0x40 ∷ 0x80 ∷ 0x20 ∷ 0x00 ∷ 0x05
-    ∷ 0x00 ∷ 0x05 ∷ 0x80 ∷ 0x40 ∷ 0x80 ∷ 0x80 ∷ 0x01 ∷ 0x82 ∷ 0x01 ∷ 0x02 ∷ 0x05 ∷ 0x00 ∷ 0x80 ∷ 0xc0 ∷ 0x01 ∷ 0x81
-    ∷ 0x01 ∷ 0x06 ∷ 0x00 ∷ 0x00 ∷ 0x00 ∷ 0x80 ∷ 0x80 ∷ 0x02 ∷ 0x00 ∷ []
-
--- a window, and a container; a priority field f stands for f - 128, and 0 for 0
-window : ℕ → ℕ → ℕ → ℕ → ℕ → Region
-window parent offset size priority port =
-    record { kind = mmio; parent = parent; offset = offset; size = size; priority = priority; «memory_start» = 0; port = port; target = 0; «alias_offset» = 0 }
-
-box : ℕ → ℕ → ℕ → ℕ → Region
-box parent offset size priority =
-    record { kind = container; parent = parent; offset = offset; size = size; priority = priority; «memory_start» = 0; port = 0; target = 0; «alias_offset» = 0 }
-
--- D and E in B, B and C in A; each parent is written one higher
-pub map001 : RegionMap
-map001 =
-    record {
-      count = 5;
-      regions =
-          window 3 0 0x1000 0 4 ∷ window 3 0x2000 0x1000 0 5 ∷ box 5 0x2000 0x4000 130 ∷ window 5 0 0x6000 129 6 ∷ box 0 0 0x8000 0
-          ∷ replicate 27 noRegion;
-    }
+use Rattle.sheet.specs.Example001.{sheet001, map001}
 
 pub reads-001 : readSheet sheet001 65536 ≡ record { reply = accepted; map = map001 }
-unfolding sheet001 window box map001 readSheet mapAt regionsFrom regionAt fieldsFrom fieldAt groups judged lowest firstPair pairsOf first linkFault parentFault siblingClash
+unfolding sheet001 map001 readSheet mapAt regionsFrom regionAt fieldsFrom fieldAt groups judged lowest firstPair pairsOf first linkFault parentFault siblingClash
 reads-001 = refl

@@ -3,3 +3,4 @@ pub mod Number
 pub mod Region
 pub mod Sheet
 pub mod Contracts
+pub mod Example001

@@ -1,3 +1,4 @@
+pub mod Answers
 pub mod ChainLaws
 pub mod Demand2
 pub mod Demand3

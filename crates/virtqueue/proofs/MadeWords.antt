@@ -18,6 +18,7 @@ use Rattle.region_map.specs.Reply.{Reply, accepted, plain, ifAccepted}
 use Rattle.region_map.specs.Flatten.{Outcome, flatList, viewHolding, refusal, listed, flattened, laidInto, isView, flattenedInto}
 use Rattle.region_map.specs.Flatten as flatten
 use Rattle.region_map.proofs.Demand3.{demand3-first-half, refused-12}
+use Rattle.virtqueue.specs.SecondHalf.{Made}
 
 -- the words of a view stand for it
 pub words-view : (v : FlatView) → length (v .ranges) ≡ 256 → viewOf (viewWords v) ≡ v
@@ -28,12 +29,6 @@ words-view v h =
     let count : viewOf (viewWords v) .count ≡ v .count = ap (λ (l : List ℕ). getD l 0 0) e in
     let ranges = puts-injective ranges-grouped (omega arith) (viewOf (viewWords v) .ranges) (v .ranges) (ap (drop 1) e) in
     λ i. record { count = count i; ranges = ranges i }
-
--- what a made view says of its map
-pub record Made (m : RegionMap) (size : ℕ) (view : List ℕ) : Type 0 where
-  pub accepted : Accepted m size
-  pub few : length (flatList m) ≤ 256
-  pub is : viewOf view ≡ viewHolding (flatList m)
 
 module _ (m : RegionMap) (size : ℕ) (old view : List ℕ) where
   -- a view is made of an accepted map alone

@@ -14,7 +14,7 @@ use Rattle.guest_view.specs.Guest.{byView}
 use Rattle.virtqueue.specs.Queue.{queueOk}
 use Rattle.virtqueue.specs.Step.{Answer, refused, Effect, steppedBy, recordsOk, stepped}
 use Rattle.virtqueue.specs.Step as step
-use Rattle.virtqueue.specs.Run.{RunEffect, runEnds, endOf, goesOn, stepsBy, ran, RunDoes}
+use Rattle.virtqueue.specs.Run.{judgedStep, RunEffect, runEnds, endOf, goesOn, stepsBy, ran, RunDoes}
 use Rattle.virtqueue.specs.declared.queue.SplitQueue.{SplitQueue}
 use Rattle.virtqueue.specs.declared.step.StepOutcome.the-variants as outcome
 use Rattle.virtqueue.specs.declared.step.Moved.{Moved}
@@ -25,7 +25,7 @@ use Rattle.device_words.specs.Words.{isDevice, deviceOf, deviceWords}
 use Rattle.virtqueue.specs.Does.{answerOf}
 use Rattle.virtqueue.proofs.DeviceLaws.{tables, step-tables, words-of, laid-back, full}
 use Rattle.virtqueue.proofs.StepLaws.{Left}
-use Rattle.virtqueue.proofs.RunSteps.{step-kept, judgedStep, run-is-steps}
+use Rattle.virtqueue.proofs.RunSteps.{step-kept, run-is-steps}
 
 -- k more steps on records that were judged
 abbrev pub stepsFrom : FlatView → ℕ → ℕ → Bool → MemoryDevice → SplitQueue → List ℕ → RunEffect

@@ -16,7 +16,7 @@ use Rattle.guest_view.specs.Guest.{Guest, written, byView}
 use Rattle.guest_view.specs.View.{viewOk}
 use Rattle.virtqueue.specs.Queue.{queueOk}
 use Rattle.virtqueue.specs.Step.{Answer, refused, idle, served, Offer, stop, nothing, ready, offered, requestBytes, responsePlaces, carrying, Effect, unmoved, finished, steppedBy, recordsOk, stepped}
-use Rattle.virtqueue.specs.Run.{runEnds, refusedBy, goesOn, stepsBy, singleSteps, ran}
+use Rattle.virtqueue.specs.Run.{judgedStep, runEnds, refusedBy, goesOn, stepsBy, singleSteps, ran}
 use Rattle.virtqueue.specs.declared.queue.SplitQueue.{SplitQueue}
 use Rattle.device_words.proofs.Kept.{change-kept}
 
@@ -63,10 +63,6 @@ module _ (g : Guest) (d : MemoryDevice) (q : SplitQueue) (memory : List ℕ) (b 
       → (deviceOk (steppedBy g d q memory .device) ≡ true) × (queueOk (steppedBy g d q memory .queue) ≡ true)
   unfolding steppedBy
   step-kept e = finish-kept (offered g memory q) e
-
--- one step on records that were judged, and a run of such steps
-abbrev pub judgedStep : FlatView → MemoryDevice → SplitQueue → List ℕ → Effect MemoryDevice
-judgedStep v d q memory = steppedBy (byView v d) d q memory
 
 module _ (v : FlatView) where
   -- after a served step 27 lets the records pass again

@@ -7,7 +7,8 @@ use lib.ListN.{length}
 use Rattle.map_records.specs.declared.view.FlatView.{FlatView}
 use Rattle.region_map.specs.Reply.{Reply, accepted, plain}
 use Rattle.device_words.specs.Device.{MemoryDevice}
-use Rattle.virtqueue.specs.Step.{Answer, refused, served, Effect, recordsOk, stepped}
+use Rattle.guest_view.specs.Guest.{byView}
+use Rattle.virtqueue.specs.Step.{Answer, refused, served, Effect, steppedBy, recordsOk, stepped}
 use Rattle.virtqueue.specs.Step as step
 use Rattle.virtqueue.specs.Does.{laid}
 use Rattle.virtqueue.specs.declared.queue.SplitQueue.{SplitQueue}
@@ -57,6 +58,10 @@ singleSteps v k d q memory = stepsBy (stepped v) k 0 false d q memory
 -- 'a k over 256 counts as 256; 0 changes nothing'; '27 comes first wherever such a record is given', for a k of 0 too
 unfoldable pub ran : FlatView → MemoryDevice → SplitQueue → List ℕ → ℕ → RunEffect
 ran v d q memory k = cond (recordsOk v d q (length memory)) (singleSteps v (min k 256) d q memory) (runEnds 0 false (refusedBy 27) d q memory)
+
+-- one step on records that were judged before: what a run that judges once is made of
+abbrev pub judgedStep : FlatView → MemoryDevice → SplitQueue → List ℕ → Effect MemoryDevice
+judgedStep v d q memory = steppedBy (byView v d) d q memory
 
 -- document 01's end for each end of the code
 abbrev pub endOf : RunEnd → End

@@ -2,9 +2,13 @@
 use mathlib.Core.Path.{_≡_}
 use mathlib.Core.Bool.{Bool, true, cond}
 use mathlib.Core.List.{List}
-use Prim.Native.Nat.{ℕ, _+_, _<_}
+use Prim.Native.Nat.{ℕ, _+_, _≤_, _<_}
 use lib.ListN.{length}
+use Rattle.map_records.specs.Words.{viewOf}
+use Rattle.map_records.specs.declared.map.RegionMap.{RegionMap}
 use Rattle.map_records.specs.declared.view.FlatView.{FlatView}
+use Rattle.region_map.specs.Check.{Accepted}
+use Rattle.region_map.specs.Flatten.{flatList, viewHolding}
 use Rattle.device_words.specs.Device.{MemoryDevice}
 use Rattle.guest_view.specs.Guest.{Guest, byView}
 use Rattle.virtqueue.specs.Chain.{Chain, whole, ended, rejected, element}
@@ -40,3 +44,9 @@ pub record SecondHalf (t : Guest) (v : FlatView) (d : MemoryDevice) (q : SplitQu
   pub served : (notify : Bool) → stepped v d q memory .answer ≡ step.served notify → stepped v d q memory .memory ≡ servedAt t d q memory (elementsOf v d q memory)
   pub idle : stepped v d q memory .answer ≡ step.idle → stepped v d q memory .memory ≡ memory
   pub refused : (k : ℕ) → stepped v d q memory .answer ≡ step.refused k → stepped v d q memory .memory ≡ memory
+
+-- What the words of a view that was made of a map say: the map is accepted, its list has no more than 256 runs, and the words stand for that list.
+pub record Made (m : RegionMap) (size : ℕ) (view : List ℕ) : Type 0 where
+  pub accepted : Accepted m size
+  pub few : length (flatList m) ≤ 256
+  pub is : viewOf view ≡ viewHolding (flatList m)
