@@ -17,7 +17,7 @@ use Rattle.device_words.specs.Device.{MemoryDevice}
 use Rattle.device_words.specs.declared.request.Request.{Request}
 use Rattle.map_records.proofs.NumberLaws.{sum-within}
 use Rattle.device_words.proofs.WordLaws.{any-held, any-free}
-use Rattle.region_map.proofs.Bools.{never, and-fst, and-snd, and-off}
+use Rattle.map_check.proofs.Bools.{never, and-fst, and-snd, and-off}
 
 -- the range rule where the address is below the region, where the offset alone is past the usable part, and else
 module _ (x : Bool) (low address : ℕ) (u size : ℕ) where

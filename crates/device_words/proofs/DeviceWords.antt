@@ -7,7 +7,7 @@ use native.Mathlib.Omega.{arith}
 use lib.ListN.{length, take, drop, length-append, length-take, length-drop, take-append-drop, drop-of-length-le}
 use lib.Seq.{take-all, take-at, drop-at}
 use borrow.Author.Tests.{eq-eqb, ne-eqb, eqb-true, eqb-false}
-use Rattle.region_map.proofs.Bools.{and-fst, and-snd}
+use Rattle.map_check.proofs.Bools.{and-fst, and-snd}
 use Rattle.device_words.specs.Device.{MemoryDevice, noDevice, withTables, withPlugged, withPins, powerBelow, setupOk, deviceOk}
 use Rattle.device_words.specs.Words.{isDevice, deviceAt, deviceOf, deviceWords}
 

@@ -7,7 +7,7 @@ use native.Mathlib.Omega.{arith}
 use native.Mathlib.Nat.{div-mul-le-self, le-div-iff-mul-le, add-mul, mul-le-mul-right, zero-add}
 use lib.Dec.{eqb, leb, ltb}
 use borrow.Author.Tests.{leb-true, ltb-true, eqb-true, eqb-false}
-use Rattle.region_map.proofs.Bools.{never, and-fst, and-snd}
+use Rattle.map_check.proofs.Bools.{never, and-fst, and-snd}
 use Rattle.device_words.specs.Table.{bitAt, within, tableOf}
 use Rattle.device_words.specs.Device.{MemoryDevice, pinnedIn, isPinned, anyPinned, noBlocks, withPlugged, setupKept, tablesOk, deviceOk}
 use Rattle.device_words.specs.Contracts.{Valid}

@@ -14,7 +14,7 @@ use lib.Bits.{bitAnd, and-shr, and-mod, and-lt}
 use lib.ListN.{length, getD, replicate, List·getD-eq-default}
 use lib.Seq.{ext-getD}
 use borrow.Author.Tests.{lt-ltb, le-ltb}
-use Rattle.region_map.proofs.Bools.{never}
+use Rattle.map_check.proofs.Bools.{never}
 use Rattle.device_words.specs.Table.{bitOf, bitAt, wordOf, wordsOf, tableOf, heldIn, bitsIn, setIn, allBelow}
 use Rattle.device_words.specs.Contracts.{onlyBelow, partOf}
 

@@ -12,7 +12,7 @@ use lib.Bits.{bitOr, bitXor, or-shr, or-mod, or-lt, xor-shr, xor-mod, xor-lt}
 use lib.ListN.{length, getD, set, replicate, length-set}
 use lib.Seq.{getD-set-same, getD-set-other}
 use borrow.Author.Tests.{lt-ltb, le-ltb, le-leb, lt-leb, eq-eqb, ne-eqb}
-use Rattle.region_map.proofs.Bools.{or-left, or-right}
+use Rattle.map_check.proofs.Bools.{or-left, or-right}
 use Rattle.device_words.specs.Table.{bitOf, bitAt, wordOf, tableOf, within, heldIn, anyBelow}
 use Rattle.device_words.proofs.TableLaws.{word-bits, word-lt, word-ext, word-low, word-bit, block, table-ext, held-le, held-all, held-none, zero-word, zero-bit}
 use Rattle.map_records.proofs.Order.{side, eq-or-not}

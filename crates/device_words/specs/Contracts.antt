@@ -4,7 +4,7 @@ use mathlib.Core.List.{List}
 use mathlib.Core.Path.{_≡_}
 use Prim.Native.Nat.{ℕ, _+_, _*_, _/_, _%_, _^_, _≤_, _<_}
 use lib.ListN.{length}
-use Rattle.region_map.specs.Fault.{limit}
+use Rattle.map_check.specs.Fault.{limit}
 use Rattle.device_words.specs.Table.{bitAt, turned, only, implies}
 use Rattle.device_words.specs.Device.{MemoryDevice, isPinned, withPlugged, withPins, withPin}
 use Rattle.device_words.specs.Request.{requestOf, blockOf, acknowledged, carriedOut}

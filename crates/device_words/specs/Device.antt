@@ -4,7 +4,7 @@ use mathlib.Core.List.{List}
 use Prim.Native.Nat.{ℕ, zero, suc, _+_, _*_, _/_, _%_, _^_}
 use lib.Dec.{eqb, leb}
 use lib.ListN.{replicate}
-use Rattle.region_map.specs.Fault.{limit}
+use Rattle.map_check.specs.Fault.{limit}
 use Rattle.device_words.specs.Table.{bitAt, turned, setIn, anyBelow, only, implies}
 
 -- the memory device. Block b is plugged, or pinned, where bit b % 64 of word b / 64 is set

@@ -3,7 +3,7 @@ use mathlib.Core.Bool.{Bool, true, false, cond, _&&_}
 use mathlib.Core.List.{List}
 use Prim.Native.Nat.{ℕ, _+_, _-_, _*_, _/_, _%_}
 use lib.Dec.{eqb, leb, ltb}
-use Rattle.region_map.specs.Reply.{Reply, accepted}
+use Rattle.map_check.specs.Reply.{Reply, accepted}
 use Rattle.device_words.specs.Bytes.{number, responseBytes}
 use Rattle.device_words.specs.Table.{turned, heldIn}
 use Rattle.device_words.specs.Device.{MemoryDevice, anyPinned, noBlocks, withPlugged, pluggedSize}

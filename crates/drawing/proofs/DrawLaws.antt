@@ -12,19 +12,19 @@ use lib.ListN.{length, set, getD, length-append}
 use lib.Seq.{sets}
 use borrow.Author.Tests.{lt-ltb, le-ltb, eq-eqb, ne-eqb, eqb-false}
 use Rattle.map_records.specs.Map.{region}
-use Rattle.region_map.specs.Fault.{parentOf}
+use Rattle.map_check.specs.Fault.{parentOf}
 use Rattle.region_map.specs.Walk.{walkRoot}
 use Rattle.region_map.specs.Resolve.{refused, leads, resolved, ledBy}
-use Rattle.region_map.specs.Check.{reply, Accepted}
-use Rattle.region_map.specs.declared.check.MapAnswer.{MapAnswer}
+use Rattle.map_check.specs.Check.{reply, Accepted}
+use Rattle.map_check.specs.declared.check.MapAnswer.{MapAnswer}
 use Rattle.region_map.specs.declared.resolve.Resolved.{Resolved}
 use Rattle.region_map.specs.declared.resolve.Resolution.{Resolution}
 use Rattle.region_map.specs.declared.resolve.Resolution.the-variants.{Refused, Answered}
 use Rattle.map_records.specs.declared.map.Region.{Region}
 use Rattle.map_records.specs.declared.map.RegionMap.{RegionMap}
 use Rattle.map_records.specs.Words.{mapOf}
-use Rattle.region_map.proofs.Accepted.{accepted-sound}
-use Rattle.region_map.proofs.MapWords.{accepted-words}
+use Rattle.map_check.proofs.Accepted.{accepted-sound}
+use Rattle.map_check.proofs.MapWords.{accepted-words}
 use Rattle.map_records.proofs.Order.{eq-or-not}
 use Rattle.map_records.proofs.StoreLaws.{sets-append}
 use Rattle.listing.proofs.TextLaws.{store-next}

@@ -7,8 +7,8 @@ use lib.ListN.{getD}
 use Rattle.listing.specs.Text.{hexText, refusedText}
 use Rattle.map_records.specs.Words.{mapOf}
 use Rattle.map_records.specs.Map.{container, ram, mmio, alias, region}
-use Rattle.region_map.specs.Reply.{ifAccepted}
-use Rattle.region_map.specs.Check.{Accepted}
+use Rattle.map_check.specs.Reply.{ifAccepted}
+use Rattle.map_check.specs.Check.{Accepted}
 use Rattle.region_map.specs.Walk.{walkRoot}
 use Rattle.region_map.specs.Flatten.{rootSize}
 use Rattle.map_records.specs.declared.map.RegionMap.{RegionMap}

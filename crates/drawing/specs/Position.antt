@@ -7,7 +7,7 @@ use lib.Dec.{eqb, ltb}
 use lib.ListN.{length}
 use Rattle.map_records.specs.Map.{region}
 use Rattle.map_records.specs.Words.{mapOf}
-use Rattle.region_map.specs.Fault.{parentOf}
+use Rattle.map_check.specs.Fault.{parentOf}
 use Rattle.region_map.specs.Flatten.{rootSize}
 use Rattle.map_records.specs.declared.map.Region.{Region}
 use Rattle.map_records.specs.declared.map.RegionMap.{RegionMap}

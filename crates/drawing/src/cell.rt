@@ -4,7 +4,7 @@ ghost use Prim.Native.Nat.{_≤_, _<_, _^_};
 ghost use lib.ListN.{length};
 ghost use Rattle.map_records.specs.Words.{mapOf};
 ghost use Rattle.region_map.specs.Walk.{walkRoot};
-ghost use Rattle.region_map.specs.Check.{Accepted};
+ghost use Rattle.map_check.specs.Check.{Accepted};
 ghost use Rattle.drawing.specs.Position.{located, Drawable};
 ghost use Rattle.drawing.specs.Drawing.{columnAddress, addressCell, rulerCell, fill as fillOf};
 ghost use Rattle.drawing.specs.Drawing.{laterCell, regionCell, answerCell, cell as cellOf, DrawnRow};

@@ -5,7 +5,7 @@ ghost use lib.ListN.{length};
 ghost use lib.Seq.{sets};
 ghost use Rattle.listing.specs.Text.{Puts, Fills};
 ghost use Rattle.map_records.specs.Words.{mapOf};
-ghost use Rattle.region_map.specs.Check.{Accepted};
+ghost use Rattle.map_check.specs.Check.{Accepted};
 ghost use Rattle.drawing.specs.Drawing.{character as characterOf, rowText, mapText, drawingText, DrawnRow};
 use crate::cell::cell;
 use crate::label::label;

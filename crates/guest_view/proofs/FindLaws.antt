@@ -15,7 +15,7 @@ use Rattle.map_records.specs.View.{entries, noRange}
 use Rattle.map_records.specs.View.{rangeOf}
 use Rattle.map_records.specs.declared.view.FlatRange.{FlatRange}
 use Rattle.map_records.specs.declared.view.FlatView.{FlatView}
-use Rattle.region_map.proofs.Bools.{and-off}
+use Rattle.map_check.proofs.Bools.{and-off}
 use Rattle.map_records.proofs.Order.{side}
 use Rattle.guest_view.specs.Guest.{nowhere, leafIn, leafAt}
 use Rattle.guest_view.specs.Contracts.{Ordered, Spot}

@@ -15,7 +15,7 @@ use Rattle.map_records.specs.View.{entries, noRange}
 use Rattle.map_records.specs.View.{rangeOf}
 use Rattle.map_records.specs.declared.view.FlatRange.{FlatRange}
 use Rattle.map_records.specs.declared.view.FlatView.{FlatView}
-use Rattle.region_map.proofs.Bools.{never, and-fst, and-snd}
+use Rattle.map_check.proofs.Bools.{never, and-fst, and-snd}
 use Rattle.device_words.specs.Device.{pluggedIn}
 use Rattle.guest_view.specs.Guest.{Leaf, nowhere, leaf, leafIn, leafAt, reachLeaf, placeLeaf, viewGuest, allReach}
 use Rattle.guest_view.specs.Contracts.{memoryKind, memoryLeaf, Ordered, Backed, InMemory, placeIn}

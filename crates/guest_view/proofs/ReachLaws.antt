@@ -14,7 +14,7 @@ use Rattle.map_records.specs.View.{entries}
 use Rattle.map_records.specs.View.{rangeOf}
 use Rattle.map_records.specs.declared.view.FlatRange.{FlatRange}
 use Rattle.map_records.specs.declared.view.FlatView.{FlatView}
-use Rattle.region_map.proofs.Bools.{and-off}
+use Rattle.map_check.proofs.Bools.{and-off}
 use Rattle.device_words.specs.Table.{bitAt, heldIn}
 use Rattle.device_words.specs.Device.{pluggedIn}
 use Rattle.guest_view.specs.Guest.{leafAt, reachKind, reachLeaf, guestBy, allReach}

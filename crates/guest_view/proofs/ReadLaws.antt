@@ -12,7 +12,7 @@ use Rattle.map_records.specs.View.{entries}
 use Rattle.map_records.specs.View.{rangeOf}
 use Rattle.map_records.specs.declared.view.FlatRange.{FlatRange}
 use Rattle.map_records.specs.declared.view.FlatView.{FlatView}
-use Rattle.region_map.proofs.Bools.{never}
+use Rattle.map_check.proofs.Bools.{never}
 use Rattle.map_records.proofs.Order.{side}
 use Rattle.guest_view.specs.Guest.{leafAt, placeLeaf, placeOf}
 use Rattle.map_records.specs.View.{offsetIn}

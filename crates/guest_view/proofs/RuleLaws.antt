@@ -12,11 +12,11 @@ use lib.ListN.{length, getD, set, replicate, getD-replicate}
 use lib.Seq.{getD-set-same, getD-set-other}
 use borrow.Author.Tests.{lt-ltb, le-ltb, le-leb, lt-leb, eq-eqb, ne-eqb, leb-true, ltb-true, eqb-true}
 use Rattle.map_records.specs.Map.{ram, mmio, managed}
-use Rattle.region_map.specs.Fault.{limit}
+use Rattle.map_check.specs.Fault.{limit}
 use Rattle.map_records.specs.View.{rangeOf, lastOffset}
 use Rattle.map_records.specs.declared.view.FlatRange.{FlatRange}
 use Rattle.map_records.specs.declared.view.FlatView.{FlatView}
-use Rattle.region_map.proofs.Bools.{never, and-fst, and-snd, and-off}
+use Rattle.map_check.proofs.Bools.{never, and-fst, and-snd, and-off}
 use Rattle.device_words.specs.Table.{allBelow}
 use Rattle.device_words.proofs.TableLaws.{all-true, all-of, all-not}
 use Rattle.map_records.proofs.Order.{side, eq-or-not}

@@ -10,7 +10,7 @@ use Rattle.map_records.specs.Words.{viewOf}
 use Rattle.map_records.specs.declared.view.FlatView.{FlatView}
 use Rattle.map_records.proofs.Order.{eq-or-not}
 use Rattle.map_records.proofs.WordLaws.{view-other}
-use Rattle.region_map.proofs.Bools.{never}
+use Rattle.map_check.proofs.Bools.{never}
 use Rattle.guest_view.specs.View.{viewOk}
 use Rattle.guest_view.specs.Contracts.{Ordered, Judged}
 use Rattle.guest_view.proofs.RuleLaws.{view-many, view-ordered}

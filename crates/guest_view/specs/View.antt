@@ -3,7 +3,7 @@ use mathlib.Core.Bool.{Bool, _&&_, _||_, not}
 use Prim.Native.Nat.{ℕ, _+_}
 use lib.Dec.{eqb, leb, ltb}
 use Rattle.map_records.specs.Map.{ram, mmio, managed}
-use Rattle.region_map.specs.Fault.{limit}
+use Rattle.map_check.specs.Fault.{limit}
 use Rattle.map_records.specs.View.{rangeOf, lastOffset}
 use Rattle.map_records.specs.declared.view.FlatRange.{FlatRange}
 use Rattle.map_records.specs.declared.view.FlatView.{FlatView}

@@ -15,8 +15,8 @@ use Rattle.map_records.specs.declared.view.FlatRange.{FlatRange}
 use Rattle.map_records.specs.declared.view.FlatView.{FlatView}
 use Rattle.map_records.specs.declared.map.RegionMap.{RegionMap}
 use Rattle.map_records.proofs.WordLaws.{ranges-grouped, view-back}
-use Rattle.region_map.specs.Reply.{Reply, accepted, nodes, place, plain, passes, numberOf, ifAccepted}
-use Rattle.region_map.specs.Check.{judged}
+use Rattle.map_check.specs.Reply.{Reply, accepted, nodes, place, plain, passes, numberOf, ifAccepted}
+use Rattle.map_check.specs.Check.{judged}
 use Rattle.region_map.specs.Flatten.{flatReply, flatList, viewHolding, refusal, listed, Outcome, flattened, Made, laidInto, flattenedInto}
 use Rattle.region_map.specs.declared.view.FlatAnswer.{FlatAnswer}
 use Rattle.region_map.specs.declared.view.FlatAnswer.the-variants.{Checked, TooMany, Record}

@@ -12,9 +12,9 @@ use lib.Seq.{sets, sets-eq, length-sets, take-suc, take-at, length-take-le}
 use borrow.Author.Tests.{lt-ltb, le-ltb, le-leb, lt-leb}
 use Rattle.io.specs.Digits.{digits, Fewest}
 use Rattle.map_records.proofs.StoreLaws.{sets-append}
-use Rattle.region_map.specs.Reply.{Reply, ifAccepted}
-use Rattle.region_map.proofs.Accepted.{passed-reply}
-use Rattle.region_map.proofs.Replies.{refused-first}
+use Rattle.map_check.specs.Reply.{Reply, ifAccepted}
+use Rattle.map_check.proofs.Accepted.{passed-reply}
+use Rattle.map_check.proofs.Replies.{refused-first}
 use Rattle.map_records.specs.Words.{mapOf}
 use Rattle.map_records.specs.declared.map.RegionMap.{RegionMap}
 use Rattle.sheet.specs.Sheet.{Outcome}

@@ -4,7 +4,7 @@ use Prim.Native.Nat.{ℕ}
 use Rattle.map_records.specs.View.{entries}
 use Rattle.map_records.specs.declared.map.RegionMap.{RegionMap}
 use Rattle.map_records.specs.declared.view.FlatRange.{FlatRange}
-use Rattle.region_map.specs.Reply.{ifAccepted}
+use Rattle.map_check.specs.Reply.{ifAccepted}
 use Rattle.region_map.specs.Flatten as flat
 use Rattle.sheet.specs.Sheet as sheet
 use Rattle.listing.specs.Text.{hexText, decimalText, spaced, ended, refusedText}

@@ -7,7 +7,7 @@ use lib.Dec.{leb, ltb}
 use lib.ListN.{length, drop}
 use lib.Seq.{sets}
 use Rattle.io.specs.Digits.{digits}
-use Rattle.region_map.specs.Reply.{Reply, numberOf}
+use Rattle.map_check.specs.Reply.{Reply, numberOf}
 
 -- how many digits n has in base b, up to k + 1
 unfoldable pub places : ℕ → ℕ → ℕ → ℕ

@@ -3,11 +3,11 @@ use mathlib.Core.Path.{_≡_, refl, sym, ap, _∙_}
 use mathlib.Core.Bool.{cond}
 use Prim.Native.Nat.{ℕ, suc}
 use lib.Dec.{eqb}
-use Rattle.region_map.specs.Reply.{Reply, accepted, nodes, place, plain}
-use Rattle.region_map.specs.Check.{reply}
-use Rattle.region_map.specs.declared.check.MapAnswer.{MapAnswer}
-use Rattle.region_map.specs.declared.check.MapAnswer.the-variants as map
-use Rattle.region_map.proofs.Answers.{answerOf, reply-back}
+use Rattle.map_check.specs.Reply.{Reply, accepted, nodes, place, plain}
+use Rattle.map_check.specs.Check.{reply}
+use Rattle.map_check.specs.declared.check.MapAnswer.{MapAnswer}
+use Rattle.map_check.specs.declared.check.MapAnswer.the-variants as map
+use Rattle.map_check.proofs.Answers.{answerOf, reply-back}
 use Rattle.memory_device.specs.Record.{hostReply}
 use Rattle.memory_device.specs.SetUp.{setUpReply}
 use Rattle.memory_device.specs.declared.device.HostAnswer.{HostAnswer}

@@ -7,7 +7,7 @@ use native.Mathlib.Omega.{arith}
 use native.Mathlib.Decide.{decLt}
 use lib.Dec.{eqb, ltb}
 use borrow.Author.Tests.{le-leb, ltb-false, eqb-true, not-false, eq-eqb}
-use Rattle.region_map.proofs.Bools.{never, and-fst, and-snd, or-left, or-right}
+use Rattle.map_check.proofs.Bools.{never, and-fst, and-snd, or-left, or-right}
 use Rattle.device_words.specs.Table.{bitAt}
 use Rattle.device_words.specs.Device.{MemoryDevice, isPinned, withTables, withPins, withPin, noBlocks, setupOk, blockOk, regionOk, addrOk, sizesOk, deviceOk}
 use Rattle.device_words.specs.Request.{requestOf}

@@ -8,8 +8,8 @@ use native.Mathlib.Omega.{arith}
 use lib.Dec.{eqb}
 use lib.ListN.{length, set}
 use borrow.Author.Tests.{eq-eqb, ne-eqb, eqb-true, eqb-false}
-use Rattle.region_map.specs.Reply.{Reply, plain, passes}
-use Rattle.region_map.proofs.Bools.{and-off}
+use Rattle.map_check.specs.Reply.{Reply, plain, passes}
+use Rattle.map_check.proofs.Bools.{and-off}
 use Rattle.device_words.specs.Table.{bitAt, within}
 use Rattle.device_words.specs.Device.{MemoryDevice, isPinned, noBlocks, withPlugged, withPins, withPin, fresh, deviceOk}
 use Rattle.device_words.specs.Contracts.{Sound, Responds}

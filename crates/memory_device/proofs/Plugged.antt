@@ -4,7 +4,7 @@ use mathlib.Core.Bool.{Bool, true, false, cond, not}
 use mathlib.Core.List.{List, [], _∷_}
 use Prim.Native.Nat.{ℕ, _<_}
 use lib.Dec.{eqb, ltb}
-use Rattle.region_map.proofs.Bools.{never}
+use Rattle.map_check.proofs.Bools.{never}
 use Rattle.device_words.specs.Bytes.{le, number, numberBy, responseBytes}
 use Rattle.device_words.specs.Table.{bitAt, within}
 use Rattle.device_words.specs.Device.{MemoryDevice, isPinned, anyPinned, noBlocks, withPins, withPin, deviceOk}

@@ -5,10 +5,10 @@ use Prim.Native.Nat.{ℕ, _+_}
 use native.Mathlib.Numerals.{add-one}
 use borrow.Author.Tests.{eq-eqb, ne-eqb}
 use Rattle.map_records.specs.Map.{managed, region}
-use Rattle.region_map.specs.Reply.{Reply, accepted, plain, passes}
-use Rattle.region_map.specs.Check.{judged, Accepted}
+use Rattle.map_check.specs.Reply.{Reply, accepted, plain, passes}
+use Rattle.map_check.specs.Check.{judged, Accepted}
 use Rattle.map_records.specs.declared.map.RegionMap.{RegionMap}
-use Rattle.region_map.proofs.Replies.{refused-first}
+use Rattle.map_check.proofs.Replies.{refused-first}
 use Rattle.device_words.specs.Device.{setupOk}
 use Rattle.memory_device.specs.SetUp.{managedIn, regionSize, freshDevice, refusal, valued, setUp}
 use Rattle.memory_device.specs.declared.setup.DeviceValues.{DeviceValues}

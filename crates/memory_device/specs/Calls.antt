@@ -3,7 +3,7 @@ use mathlib.Core.Bool.{Bool, true, false, cond, _&&_}
 use mathlib.Core.List.{List, [], _∷_}
 use Prim.Native.Nat.{ℕ}
 use lib.Dec.{eqb}
-use Rattle.region_map.specs.Reply.{passes}
+use Rattle.map_check.specs.Reply.{passes}
 use Rattle.device_words.specs.Bytes.{number}
 use Rattle.device_words.specs.Table.{within}
 use Rattle.device_words.specs.Device.{MemoryDevice, deviceOk}

@@ -4,7 +4,7 @@ use mathlib.Core.List.{List}
 use Prim.Native.Nat.{ℕ, _/_, _%_, max}
 use lib.Dec.{eqb, ltb}
 use lib.ListN.{length, replicate}
-use Rattle.region_map.specs.Reply.{Reply, accepted, plain}
+use Rattle.map_check.specs.Reply.{Reply, accepted, plain}
 use Rattle.device_words.specs.Bytes.{configurationBytes}
 use Rattle.device_words.specs.Table.{bitAt}
 use Rattle.device_words.specs.Device.{MemoryDevice, isPinned, withPins, withPin, fresh, pluggedSize, blockOfByte, deviceOk}

@@ -3,7 +3,7 @@ use mathlib.Core.Bool.{cond}
 use mathlib.Core.List.{List}
 use mathlib.Core.Path.{_≡_}
 use Prim.Native.Nat.{ℕ}
-use Rattle.region_map.specs.Reply.{Reply, passes}
+use Rattle.map_check.specs.Reply.{Reply, passes}
 use Rattle.device_words.specs.Device.{MemoryDevice}
 use Rattle.device_words.specs.Words.{deviceWords}
 use Rattle.device_words.specs.Request as request

@@ -1,5 +1,5 @@
 -- The device's record by value, and what a call of the host answers. Assumes nothing: these are definitions.
-use Rattle.region_map.specs.Reply.{Reply, accepted, plain}
+use Rattle.map_check.specs.Reply.{Reply, accepted, plain}
 use Rattle.device_words.specs.Device.{MemoryDevice}
 use Rattle.memory_device.specs.declared.device.MemoryDevice as value
 use Rattle.memory_device.specs.declared.device.Changed.{Changed}

@@ -4,7 +4,7 @@ use mathlib.Core.List.{List}
 use Prim.Native.Nat.{ℕ}
 use lib.Dec.{eqb}
 use lib.ListN.{length, replicate}
-use Rattle.region_map.specs.Reply.{plain}
+use Rattle.map_check.specs.Reply.{plain}
 use Rattle.device_words.specs.Device.{MemoryDevice, deviceOk}
 use Rattle.device_words.specs.Request.{Outcome, requestOf, carriedOut}
 use Rattle.memory_device.specs.Record.{recordOf, hostReply}

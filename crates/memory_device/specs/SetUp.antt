@@ -3,8 +3,8 @@ use mathlib.Core.Bool.{cond}
 use Prim.Native.Nat.{ℕ, zero, suc}
 use lib.Dec.{eqb}
 use Rattle.map_records.specs.Map.{managed, region}
-use Rattle.region_map.specs.Reply.{Reply, accepted, plain, ifAccepted}
-use Rattle.region_map.specs.Check.{reply, judged}
+use Rattle.map_check.specs.Reply.{Reply, accepted, plain, ifAccepted}
+use Rattle.map_check.specs.Check.{reply, judged}
 use Rattle.map_records.specs.declared.map.RegionMap.{RegionMap}
 use Rattle.device_words.specs.Device.{MemoryDevice, noBlocks, noDevice, setupOk}
 use Rattle.memory_device.specs.Record.{Outcome, recordOf}

@@ -1,7 +1,7 @@
 // The device's record, and the 37 words in which it lies.
 ghost use mathlib.Core.Path.{_≡_};
 ghost use lib.ListN.{length};
-ghost use Rattle.region_map.specs.Reply.{numberOf};
+ghost use Rattle.map_check.specs.Reply.{numberOf};
 ghost use Rattle.device_words.specs.Device.{noDevice, withTables};
 ghost use Rattle.device_words.specs.Words.{deviceAt, deviceOf, deviceWords};
 ghost use Rattle.memory_device.specs.Record.{recordOf, hostReply};

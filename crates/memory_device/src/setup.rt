@@ -1,20 +1,20 @@
 // Setting the device up from a given map.
 ghost use mathlib.Core.Path.{_≡_};
 ghost use Rattle.map_records.specs.Words.{mapOf};
-ghost use Rattle.region_map.specs.Contracts.{Counted};
+ghost use Rattle.map_check.specs.Contracts.{Counted};
 ghost use Rattle.memory_device.specs.SetUp.{regionSize, setUp, setUpReply, outcomeOf};
-ghost use Rattle.region_map.specs.Reply.{numberOf};
+ghost use Rattle.map_check.specs.Reply.{numberOf};
 use crate::device::MemoryDevice;
 use crate::device::no_device;
 use device_words::rules::setup_ok;
+use map_check::check;
+use map_check::check::MapAnswer;
+use map_check::check::accepts;
+use map_check::check::check_map;
 use map_records::map::GuestAddress;
 use map_records::map::MANAGED;
 use map_records::words::region_at;
 use map_records::words::region_count;
-use region_map::check;
-use region_map::check::MapAnswer;
-use region_map::check::accepts;
-use region_map::check::check_map;
 
 // What the host chooses. The region's size is the managed region's.
 pub struct DeviceValues {

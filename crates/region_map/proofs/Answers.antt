@@ -1,54 +1,12 @@
--- A promise over document 01's numbers fixes the answer, of the check and of making the view: two answers with one number and the same nodes are equal. Assumes nothing.
+-- A promise over document 01's numbers fixes the answer of making the view: two answers with one number and the same nodes are equal. Assumes nothing.
 use mathlib.Core.Path.{_≡_, refl, sym, ap, _∙_}
 use mathlib.Core.Bool.{cond}
-use Prim.Native.Nat.{ℕ}
 use lib.Dec.{eqb}
-use Rattle.region_map.specs.Reply.{Reply, accepted, nodes, place, plain}
-use Rattle.region_map.specs.Check.{reply}
+use Rattle.map_check.specs.Reply.{Reply, accepted, nodes, place, plain}
+use Rattle.map_check.proofs.Answers.{answerOf, reply-back, reply-form}
 use Rattle.region_map.specs.Flatten.{flatReply}
-use Rattle.region_map.specs.declared.check.MapAnswer.{MapAnswer}
-use Rattle.region_map.specs.declared.check.MapAnswer.the-variants as answer
 use Rattle.region_map.specs.declared.view.FlatAnswer.{FlatAnswer}
 use Rattle.region_map.specs.declared.view.FlatAnswer.the-variants.{Checked, TooMany, Record}
-
--- the answer of a number with its nodes
-abbrev pub answerOf : Reply → MapAnswer
-answerOf accepted = answer.Accepted
-answerOf (nodes k i j) =
-    cond (eqb k 3) answer.Count
-    (cond (eqb k 4) (answer.Kind i)
-    (cond (eqb k 6) (answer.Field i)
-    (cond (eqb k 7) (answer.Link i)
-    (cond (eqb k 8) (answer.Memory i j)
-    (cond (eqb k 9) (answer.Managed i j) (cond (eqb k 10) (answer.Port i j) (answer.Overlap i j)))))))
-answerOf (place k p) = answer.Accepted
-answerOf (plain k) = answer.Accepted
-
-pub reply-back : (a : MapAnswer) → answerOf (reply a) ≡ a
-reply-back answer.Accepted = refl
-reply-back answer.Count = refl
-reply-back (answer.Kind n) = refl
-reply-back (answer.Field n) = refl
-reply-back (answer.Link n) = refl
-reply-back (answer.Memory i j) = refl
-reply-back (answer.Managed i j) = refl
-reply-back (answer.Port i j) = refl
-reply-back (answer.Overlap i j) = refl
-
-pub reply-injective : (a b : MapAnswer) → reply a ≡ reply b → a ≡ b
-reply-injective a b e = sym (reply-back a) ∙ ap answerOf e ∙ reply-back b
-
--- the check accepts, or gives a number with two nodes: what holds of both holds of its answer
-pub reply-form : (P : Reply → Type 0) → P accepted → ((k i j : ℕ) → P (nodes k i j)) → (a : MapAnswer) → P (reply a)
-reply-form P x f answer.Accepted = x
-reply-form P x f answer.Count = f 3 0 0
-reply-form P x f (answer.Kind n) = f 4 n n
-reply-form P x f (answer.Field n) = f 6 n n
-reply-form P x f (answer.Link n) = f 7 n n
-reply-form P x f (answer.Memory i j) = f 8 i j
-reply-form P x f (answer.Managed i j) = f 9 i j
-reply-form P x f (answer.Port i j) = f 10 i j
-reply-form P x f (answer.Overlap i j) = f 11 i j
 
 abbrev flatAnswerOf : Reply → FlatAnswer
 flatAnswerOf accepted = Checked (answerOf accepted)

@@ -10,8 +10,8 @@ use lib.ListN.{length, getD, replicate, List·getD-append}
 use lib.Seq.{take-append-seam}
 use borrow.Author.Tests.{lt-ltb, le-ltb, eq-eqb, ne-eqb, eqb-false}
 use Rattle.map_records.specs.Map.{ram, mmio, managed, region}
-use Rattle.region_map.specs.Reply.{accepted, plain}
-use Rattle.region_map.specs.Check.{Accepted}
+use Rattle.map_check.specs.Reply.{accepted, plain}
+use Rattle.map_check.specs.Check.{Accepted}
 use Rattle.region_map.specs.Walk.{walkRoot}
 use Rattle.region_map.specs.FlatList.{flat, inside, answerOf, lookup, Chain, Longest}
 use Rattle.region_map.specs.Flatten.{backingOf, rootSize, flatList, viewHolding, refusal, listed, flattened, FirstHalf}
@@ -23,7 +23,7 @@ use Rattle.map_records.specs.declared.map.RegionOffset.{RegionOffset}
 use Rattle.region_map.specs.declared.resolve.Resolved.the-variants.{Nothing, At}
 use Rattle.map_records.specs.declared.view.FlatRange.{FlatRange}
 use Rattle.region_map.specs.declared.flat.Backing.{Backing}
-use Rattle.region_map.proofs.Accepted.{accepted-sound}
+use Rattle.map_check.proofs.Accepted.{accepted-sound}
 use Rattle.region_map.proofs.WalkLaws.{past}
 use Rattle.region_map.proofs.LeafLaws.{root-leaf}
 use Rattle.region_map.specs.Visibility.{LeafOf}

@@ -16,7 +16,7 @@ use Rattle.region_map.specs.Walk.{orElse}
 use Rattle.region_map.specs.declared.resolve.Resolved.{Resolved}
 use Rattle.region_map.specs.declared.resolve.Resolved.the-variants.{Nothing, At}
 use Rattle.region_map.specs.Pieces.{countOf, horizonOf, startOf, firstOf, endOf, regionOf, offsetOf, window, itself, pieceGives, given, shown, Pieces, Behind, Spot, Fits, Free, isTaken, Run}
-use Rattle.region_map.proofs.Bools.{and-fst, and-snd}
+use Rattle.map_check.proofs.Bools.{and-fst, and-snd}
 use Rattle.region_map.proofs.WindowLaws.{window-in, window-before, window-past, or-nothing}
 
 -- a search by halving: the pieces below `low` end at or before the address, and the one at `high` after it

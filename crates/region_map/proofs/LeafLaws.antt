@@ -6,14 +6,14 @@ use native.Mathlib.Omega.{arith}
 use borrow.Author.Tests.{eqb-true, eqb-false, leb-false}
 use lib.Dec.{eqb, leb}
 use Rattle.map_records.specs.Map.{container, alias, region}
-use Rattle.region_map.specs.Check.{Accepted}
+use Rattle.map_check.specs.Check.{Accepted}
 use Rattle.region_map.specs.Visibility.{LeafOf}
 use Rattle.region_map.specs.Walk.{ranked, orElse, holds, asked, own, answer, tried, visit, walkBelow, walk, walkRoot}
 use Rattle.map_records.specs.declared.map.RegionMap.{RegionMap}
 use Rattle.map_records.specs.declared.map.RegionOffset.{RegionOffset}
 use Rattle.region_map.specs.declared.resolve.Resolved.{Resolved}
 use Rattle.region_map.specs.declared.resolve.Resolved.the-variants.{Nothing, At}
-use Rattle.region_map.proofs.Accepted.{accepted-sound}
+use Rattle.map_check.proofs.Accepted.{accepted-sound}
 
 module _ (m : RegionMap) where
   pub record Leaf (k n o : ℕ) : Type 0 where

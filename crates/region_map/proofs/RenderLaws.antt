@@ -12,7 +12,8 @@ use lib.Dec.{leb, ltb}
 use lib.ListN.{length}
 use Rattle.map_records.specs.Map.{region}
 use Rattle.region_map.specs.Walk.{ranked, orElse, answer, tried, walkBelow, walk, walkRoot}
-use Rattle.region_map.specs.Contracts.{shift, Walkable, NextChild, Grew, Pushed}
+use Rattle.map_check.specs.Contracts.{Walkable}
+use Rattle.region_map.specs.Contracts.{shift, NextChild, Grew, Pushed}
 use Rattle.region_map.specs.FlatList.{extend, flat}
 use Rattle.region_map.specs.Pieces.{countOf, horizonOf, startOf, firstOf, endOf, regionOf, offsetOf, window, itself, pieceGives, given, shown, Pieces, Behind, Whole}
 use Rattle.map_records.specs.declared.map.Region.{Region}
@@ -23,7 +24,7 @@ use Rattle.region_map.specs.declared.flat.Backing.{Backing}
 use Rattle.map_records.specs.declared.view.FlatRange.{FlatRange}
 use Rattle.region_map.proofs.WalkLaws.{past, child-at, child-before, walk-alias, walk-inside, own-is, own-none, tried-none, tried-next}
 use Rattle.region_map.proofs.WindowLaws.{window-in, window-before, window-past, or-nothing}
-use Rattle.region_map.proofs.Bools.{or-left, or-right}
+use Rattle.map_check.proofs.Bools.{or-left, or-right}
 use Rattle.region_map.proofs.ViewLaws.{turned}
 
 -- The first that answers.

@@ -2,13 +2,13 @@
 use mathlib.Core.Path.{_≡_}
 use mathlib.Core.Bool.{false}
 use Prim.Native.Nat.{ℕ}
-use Rattle.region_map.specs.Reply.{Reply, passes}
-use Rattle.region_map.specs.Check.{judged, Accepted}
+use Rattle.map_check.specs.Reply.{Reply, passes}
+use Rattle.map_check.specs.Check.{judged, Accepted}
 use Rattle.region_map.specs.Walk.{walkRoot}
 use Rattle.region_map.specs.Resolve.{refused, leads, resolved}
 use Rattle.map_records.specs.declared.map.RegionMap.{RegionMap}
 use Rattle.region_map.specs.declared.resolve.Resolved.{Resolved}
-use Rattle.region_map.proofs.Replies.{refused-first}
+use Rattle.map_check.proofs.Replies.{refused-first}
 
 pub led : (m : RegionMap) (memory a : ℕ) (x : Resolved) → Accepted m memory → x ≡ walkRoot m a → leads x ≡ resolved m memory a
 unfolding resolved Accepted

@@ -11,7 +11,7 @@ use lib.ListN.{length, getD}
 use Rattle.map_records.specs.View.{noRange}
 use Rattle.map_records.specs.declared.view.FlatRange.{FlatRange}
 use Rattle.region_map.specs.FlatList.{answerOf, lookup, Entry, Chain, Longest}
-use Rattle.region_map.proofs.Bools.{never}
+use Rattle.map_check.proofs.Bools.{never}
 use Rattle.region_map.proofs.RangeTests.{on-joins, inside-on, inside-before, inside-beyond}
 
 offset-in : Resolved → ℕ

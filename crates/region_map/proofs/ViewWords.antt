@@ -13,8 +13,8 @@ use Rattle.map_records.specs.declared.view.FlatView.{FlatView}
 use Rattle.map_records.proofs.WordLaws.{full-words, range-stored, count-stored, view-back, empty-words}
 use borrow.Author.Tests.{eq-eqb, ne-eqb}
 use Rattle.map_records.specs.declared.map.RegionMap.{RegionMap}
-use Rattle.region_map.specs.Reply.{Reply, accepted, plain, passes}
-use Rattle.region_map.specs.Check.{judged, Accepted}
+use Rattle.map_check.specs.Reply.{Reply, accepted, plain, passes}
+use Rattle.map_check.specs.Check.{judged, Accepted}
 use Rattle.region_map.specs.FlatList.{joins, grown, push, flat}
 use Rattle.region_map.specs.Flatten.{viewHolding, Outcome, refusal, listed, flatList, flattened, laidInto, flattenedInto}
 use Rattle.region_map.specs.Contracts.{Viewed, Filled, Grew, Grows, Blank}
@@ -22,7 +22,7 @@ use Rattle.region_map.specs.declared.resolve.Resolved.{Resolved}
 use Rattle.region_map.specs.declared.flat.Backing.{Backing}
 use Rattle.region_map.proofs.FlatLaws.{flat-longest}
 use Rattle.region_map.proofs.UniqueLaws.{entry-at}
-use Rattle.region_map.proofs.Replies.{refused-first}
+use Rattle.map_check.proofs.Replies.{refused-first}
 use Rattle.region_map.proofs.ViewLaws.{grew, added, refused, blank-grown, blank-added, whole-view}
 
 -- words after which a view is v

@@ -9,17 +9,17 @@ use native.Mathlib.Omega.{arith}
 use lib.Dec.{eqb, leb, ltb}
 use borrow.Author.Tests.{eqb-true, leb-true, ltb-true, le-leb, lt-ltb}
 use Rattle.map_records.specs.Map.{alias, region}
-use Rattle.region_map.specs.Clash.{priorityOf}
-use Rattle.region_map.specs.Check.{Accepted}
-use Rattle.region_map.specs.Sound.{Sound}
+use Rattle.map_check.specs.Clash.{priorityOf}
+use Rattle.map_check.specs.Check.{Accepted}
+use Rattle.map_check.specs.Sound.{Sound}
 use Rattle.region_map.specs.Visibility.{Holding, childAnswer, Visible}
 use Rattle.region_map.specs.Walk.{rank, child, ranked, orElse, holds, asked, own, answer, tried, walkBelow, walk}
 use Rattle.map_records.specs.declared.map.RegionMap.{RegionMap}
 use Rattle.map_records.specs.declared.map.RegionOffset.{RegionOffset}
 use Rattle.region_map.specs.declared.resolve.Resolved.{Resolved}
 use Rattle.region_map.specs.declared.resolve.Resolved.the-variants.{Nothing, At}
-use Rattle.region_map.proofs.Bools.{and-fst, and-snd}
-use Rattle.region_map.proofs.Accepted.{accepted-sound, accepted-walkable}
+use Rattle.map_check.proofs.Bools.{and-fst, and-snd}
+use Rattle.map_check.proofs.Accepted.{accepted-sound, accepted-walkable}
 use Rattle.region_map.proofs.WalkLaws.{rank-mod, is-ranked, walk-below, walk-inside, walk-alias, past, priority-le}
 
 module _ (m : RegionMap) (u : ℕ → ℕ → Resolved) (n a : ℕ) where

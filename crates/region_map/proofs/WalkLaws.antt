@@ -11,11 +11,12 @@ use Rattle.map_records.specs.declared.map.Region.{Region}
 use Rattle.map_records.specs.declared.map.RegionMap.{RegionMap}
 use Rattle.region_map.specs.declared.resolve.Resolved.{Resolved}
 use Rattle.region_map.specs.declared.resolve.Resolved.the-variants.{Nothing, At}
-use Rattle.region_map.proofs.Bools.{and-fst, and-snd, and-no}
+use Rattle.map_check.proofs.Bools.{and-fst, and-snd, and-no}
 use Rattle.map_records.specs.Map.{region}
-use Rattle.region_map.specs.Clash.{priorityOf}
+use Rattle.map_check.specs.Clash.{priorityOf}
 use Rattle.region_map.specs.Walk.{rank, child, ranked, orElse, holds, asked, own, answer, tried, visit, walkBelow, walk}
-use Rattle.region_map.specs.Contracts.{Walkable, NextChild}
+use Rattle.map_check.specs.Contracts.{Walkable}
+use Rattle.region_map.specs.Contracts.{NextChild}
 
 -- Tests.
 

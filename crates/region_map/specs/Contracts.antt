@@ -2,94 +2,24 @@
 use mathlib.Core.Path.{_≡_}
 use mathlib.Core.Bool.{Bool, true, false}
 use mathlib.Core.List.{List}
-use Prim.Native.Nat.{ℕ, _+_, _-_, _^_, _≤_, _<_}
+use Prim.Native.Nat.{ℕ, _+_, _-_, _≤_, _<_}
 use lib.Dec.{ltb}
 use lib.ListN.{length, drop, replicate}
-use Rattle.map_records.specs.Map.{alias, region}
 use Rattle.map_records.specs.View.{noRange, rangeOf, entries}
 use Rattle.map_records.specs.Words.{mapOf, viewOf}
-use Rattle.region_map.specs.Reply.{Reply, accepted, nodes, _then_, lowest, firstPair}
-use Rattle.region_map.specs.Fault.{kindFault, fieldFault, linkFault, memoryFault}
-use Rattle.region_map.specs.Clash.{memoryClash, managedClash, portClash, siblingClash}
+use Rattle.map_check.specs.Contracts.{Tree}
 use Rattle.region_map.specs.Walk.{ranked, walkRoot}
 use Rattle.region_map.specs.Flatten.{flatBelow}
 use Rattle.region_map.specs.Pieces.{startOf, Pieces, Whole}
 use Rattle.map_records.specs.declared.map.RegionMap.{RegionMap}
 use Rattle.map_records.specs.declared.view.FlatRange.{FlatRange}
 use Rattle.map_records.specs.declared.view.FlatView.{FlatView}
-use Rattle.region_map.specs.declared.fault.NodeRule.{NodeRule}
-use Rattle.region_map.specs.declared.fault.NodeRule.the-variants as node
-use Rattle.region_map.specs.declared.clash.PairRule.{PairRule}
-use Rattle.region_map.specs.declared.clash.PairRule.the-variants as pair
-use Rattle.region_map.specs.declared.search.Lowest.{Lowest}
-use Rattle.region_map.specs.declared.search.Lowest.the-variants as lowest
-use Rattle.region_map.specs.declared.search.Pair.{Pair}
-use Rattle.region_map.specs.declared.search.Pair.the-variants as found
 use Rattle.region_map.specs.declared.resolve.Resolved.{Resolved}
 use Rattle.region_map.specs.declared.resolve.Resolved.the-variants.{Nothing, At}
 
--- The check.
-
--- words of a map whose count is one that a map can have
-pub record Counted (w : List ℕ) : Type 0 where
-  pub words : length w ≡ 289
-  pub few : mapOf w .count ≤ 32
-
--- the rule that a search over the regions goes by, of a map over a memory
-abbrev pub fault : NodeRule → RegionMap → ℕ → ℕ → Bool
-fault node.Kind m memory n = kindFault (region m n .kind)
-fault node.Field m memory n = fieldFault (region m n)
-fault node.Link m memory n = linkFault m n
-fault node.Memory m memory n = memoryFault memory (region m n)
-
--- the rule that a search over pairs goes by
-abbrev pub clash : PairRule → RegionMap → ℕ → ℕ → Bool
-clash pair.Memory m i j = memoryClash (region m i) (region m j)
-clash pair.Managed m i j = managedClash (region m i) (region m j)
-clash pair.Ports m i j = portClash (region m i) (region m j)
-clash pair.Siblings m i j = siblingClash m i j
-
--- what a search for the lowest region finds, whatever number goes with it
-abbrev pub LowestIs : (ℕ → Bool) → ℕ → Lowest → Type 0
-LowestIs f n (lowest.Node i) = (k : ℕ) → lowest k f n ≡ nodes k i i
-LowestIs f n lowest.Nothing = (k : ℕ) → lowest k f n ≡ accepted
-
--- what a search for the first pair finds
-abbrev pub FirstIs : (ℕ → ℕ → Bool) → ℕ → Pair → Type 0
-FirstIs f n (found.Found i j) = (k : ℕ) → firstPair k f n ≡ nodes k i j
-FirstIs f n found.Nothing = (k : ℕ) → firstPair k f n ≡ accepted
-
--- the part of the check that goes over one region, and the part that goes over two
-unfoldable pub onRegions : RegionMap → ℕ → Reply
-onRegions m memory =
-    lowest 4 (fault node.Kind m memory) (m .count)
-    then lowest 6 (fault node.Field m memory) (m .count)
-    then lowest 7 (fault node.Link m memory) (m .count)
-    then lowest 8 (fault node.Memory m memory) (m .count)
-
-unfoldable pub onPairs : RegionMap → Reply
-onPairs m =
-    firstPair 8 (clash pair.Memory m) (m .count)
-    then firstPair 9 (clash pair.Managed m) (m .count)
-    then firstPair 10 (clash pair.Ports m) (m .count)
-    then firstPair 11 (clash pair.Siblings m) (m .count)
-
 -- The walk.
 
--- what the walk needs of a map; `Sound` gives it
-pub record Walkable (m : RegionMap) : Type 0 where
-  pub count : m .count ≤ 32
-  pub targets : (n : ℕ) → n < m .count → region m n .kind ≡ alias → region m n .target < n
-  pub sizes : (n : ℕ) → n < m .count → region m n .size ≤ 2 ^ 48
-  pub aliases : (n : ℕ) → n < m .count → region m n .«alias_offset» ≤ 2 ^ 48
-  pub priorities : (n : ℕ) → n < m .count → region m n .priority ≤ 255
-
--- words of a map that can be gone through
-pub record Tree (w : List ℕ) : Type 0 where
-  pub words : length w ≡ 289
-  pub walkable : Walkable (mapOf w)
-
--- region n of such a map
+-- region n of a map that can be gone through
 pub record InTree (w : List ℕ) (n : ℕ) : Type 0 where
   pub tree : Tree w
   pub below : n < mapOf w .count

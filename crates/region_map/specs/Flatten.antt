@@ -8,8 +8,8 @@ use lib.ListN.{length, replicate}
 use Rattle.map_records.specs.Map.{mmio, region}
 use Rattle.map_records.specs.View.{noRange}
 use Rattle.map_records.specs.Words.{viewWords}
-use Rattle.region_map.specs.Reply.{Reply, accepted, plain, ifAccepted, passes}
-use Rattle.region_map.specs.Check.{reply, judged}
+use Rattle.map_check.specs.Reply.{Reply, accepted, plain, ifAccepted, passes}
+use Rattle.map_check.specs.Check.{reply, judged}
 use Rattle.region_map.specs.Walk.{walkRoot}
 use Rattle.region_map.specs.FlatList.{flat, lookup, Longest}
 use Rattle.map_records.specs.declared.map.RegionMap.{RegionMap}

@@ -1,8 +1,3 @@
-pub mod Reply
-pub mod Fault
-pub mod Clash
-pub mod Check
-pub mod Sound
 pub mod Walk
 pub mod Visibility
 pub mod Resolve

@@ -1,7 +1,7 @@
 -- The walk of a given map at a guest address. Assumes nothing: these are definitions.
 use Prim.Native.Nat.{ℕ}
-use Rattle.region_map.specs.Reply.{Reply, ifAccepted}
-use Rattle.region_map.specs.Check.{reply, judged}
+use Rattle.map_check.specs.Reply.{Reply, ifAccepted}
+use Rattle.map_check.specs.Check.{reply, judged}
 use Rattle.region_map.specs.Walk.{walkRoot}
 use Rattle.map_records.specs.declared.map.RegionMap.{RegionMap}
 use Rattle.region_map.specs.declared.resolve.Resolved.{Resolved}

@@ -2,7 +2,7 @@
 use mathlib.Core.Path.{_≡_}
 use Prim.Native.Nat.{ℕ, _+_, _-_, _≤_, _<_}
 use Rattle.map_records.specs.Map.{ram, mmio, alias, managed, region}
-use Rattle.region_map.specs.Clash.{priorityOf}
+use Rattle.map_check.specs.Clash.{priorityOf}
 use Rattle.region_map.specs.Walk.{own}
 use Rattle.map_records.specs.declared.map.RegionMap.{RegionMap}
 use Rattle.map_records.specs.declared.map.RegionOffset.{RegionOffset}

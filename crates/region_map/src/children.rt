@@ -4,7 +4,7 @@ ghost use Prim.Native.Nat.{_≤_};
 ghost use Rattle.map_records.specs.Words.{mapOf};
 ghost use Rattle.region_map.specs.Walk.{rank as rankOf};
 ghost use Rattle.region_map.specs.Contracts.{InTree, NextChild};
-use crate::clash::priority_of;
+use map_check::priority::priority_of;
 use map_records::words::region_at;
 
 // More than every rank of a child.

@@ -1,13 +1,9 @@
-// The region map under the guest: the check that accepts a given map or refuses it with a number of document 01,
-// the walk through the tree, and the flat view. A map is read, and a view is made, in the words that are lent.
-pub mod check;
+// The region map under the guest: the walk through the tree of a map that the check accepts, and the flat view. A map
+// is read, and a view is made, in the words that are lent.
 mod children;
-mod clash;
-mod fault;
 mod flat;
 mod pieces;
 mod render;
 pub mod resolve;
-mod search;
 pub mod view;
 mod walk;

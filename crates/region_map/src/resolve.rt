@@ -2,10 +2,10 @@
 ghost use mathlib.Core.Path.{_≡_};
 ghost use Rattle.map_records.specs.Words.{mapOf};
 ghost use Rattle.region_map.specs.Resolve.{resolved, ledBy};
-use crate::check::MapAnswer;
-use crate::check::accepts;
-use crate::check::check_map;
 use crate::walk::walk;
+use map_check::check::MapAnswer;
+use map_check::check::accepts;
+use map_check::check::check_map;
 use map_records::map::GuestAddress;
 use map_records::map::RegionOffset;
 use map_records::words::region_count;

@@ -2,12 +2,12 @@
 ghost use mathlib.Core.Path.{_≡_};
 ghost use Rattle.map_records.specs.Words.{mapOf};
 ghost use Rattle.region_map.specs.Flatten.{flatReply, flattenedInto};
-ghost use Rattle.region_map.specs.Reply.{numberOf};
-use crate::check;
-use crate::check::MapAnswer;
-use crate::check::accepts;
-use crate::check::check_map;
+ghost use Rattle.map_check.specs.Reply.{numberOf};
 use crate::flat::sweep;
+use map_check::check;
+use map_check::check::MapAnswer;
+use map_check::check::accepts;
+use map_check::check::check_map;
 use map_records::words::copy_words;
 
 // What the map's check says, or that an accepted map has more than 256 ranges, or that the lent words are not

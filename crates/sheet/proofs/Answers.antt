@@ -2,8 +2,8 @@
 use mathlib.Core.Path.{_≡_, refl, sym, ap, _∙_}
 use mathlib.Core.Bool.{cond}
 use lib.Dec.{eqb}
-use Rattle.region_map.specs.Reply.{Reply, accepted, nodes, place, plain}
-use Rattle.region_map.proofs.Answers.{answerOf, reply-back, reply-form}
+use Rattle.map_check.specs.Reply.{Reply, accepted, nodes, place, plain}
+use Rattle.map_check.proofs.Answers.{answerOf, reply-back, reply-form}
 use Rattle.sheet.specs.Answer.{sheetReply}
 use Rattle.sheet.specs.declared.answer.SheetAnswer.{SheetAnswer}
 use Rattle.sheet.specs.declared.answer.SheetAnswer.the-variants.{Short, Number, Count, Kind, Tail, Record, Checked}

@@ -1,9 +1,9 @@
 -- Document 01's sheet of the map of source 001 reads as its five regions D, E, B, C, A. Assumes nothing.
 use mathlib.Core.Path.{_≡_, refl}
-use Rattle.region_map.specs.Fault.{parentFault, linkFault}
-use Rattle.region_map.specs.Clash.{siblingClash}
-use Rattle.region_map.specs.Reply.{accepted, first, lowest, pairsOf, firstPair}
-use Rattle.region_map.specs.Check.{judged}
+use Rattle.map_check.specs.Fault.{parentFault, linkFault}
+use Rattle.map_check.specs.Clash.{siblingClash}
+use Rattle.map_check.specs.Reply.{accepted, first, lowest, pairsOf, firstPair}
+use Rattle.map_check.specs.Check.{judged}
 use Rattle.sheet.specs.Number.{groups}
 use Rattle.sheet.specs.Region.{fieldAt, fieldsFrom, regionAt}
 use Rattle.sheet.specs.Sheet.{regionsFrom, mapAt, readSheet}

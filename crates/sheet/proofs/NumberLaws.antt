@@ -9,7 +9,7 @@ use lib.Dec.{eqb, ltb}
 use lib.ListN.{length, getD}
 use lib.Pow.{pow-mono, pow-add}
 use borrow.Author.Tests.{lt-ltb, le-ltb, le-leb, lt-leb, ne-eqb}
-use Rattle.region_map.specs.Reply.{place}
+use Rattle.map_check.specs.Reply.{place}
 use Rattle.sheet.specs.Answer.{Read, got, refused}
 use Rattle.sheet.specs.Number.{joined, lastGroup, groups, number}
 

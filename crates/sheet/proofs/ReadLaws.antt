@@ -11,11 +11,11 @@ use Rattle.map_records.specs.Words.{mapOf, mapWords}
 use Rattle.map_records.specs.declared.map.RegionMap.{RegionMap}
 use Rattle.map_records.proofs.GroupLaws.{puts-injective}
 use Rattle.map_records.proofs.WordLaws.{regions-grouped, map-back}
-use Rattle.region_map.specs.Reply.{Reply, accepted, nodes, place, plain, passes, numberOf}
-use Rattle.region_map.specs.Check.{reply, countFault, judged, Accepted}
-use Rattle.region_map.specs.declared.check.MapAnswer.{MapAnswer}
-use Rattle.region_map.specs.declared.check.MapAnswer.the-variants as map
-use Rattle.region_map.proofs.Bools.{never}
+use Rattle.map_check.specs.Reply.{Reply, accepted, nodes, place, plain, passes, numberOf}
+use Rattle.map_check.specs.Check.{reply, countFault, judged, Accepted}
+use Rattle.map_check.specs.declared.check.MapAnswer.{MapAnswer}
+use Rattle.map_check.specs.declared.check.MapAnswer.the-variants as map
+use Rattle.map_check.proofs.Bools.{never}
 use Rattle.sheet.specs.Answer.{Read, got, refused, next, sheetReply}
 use Rattle.sheet.specs.Number.{number}
 use Rattle.sheet.specs.Sheet.{blankMap, regionsFrom, mapAt, Outcome, refusal, checked, finished, readSheet, Made, laidInto, readInto}

@@ -9,8 +9,8 @@ use Rattle.map_records.specs.Map.{has, withValue}
 use Rattle.map_records.specs.declared.map.Field.{Field}
 use Rattle.map_records.specs.declared.map.Region.{Region}
 use Rattle.map_records.specs.declared.map.RegionMap.{RegionMap}
-use Rattle.region_map.specs.Fault.{kindFault}
-use Rattle.region_map.specs.Reply.{Reply, place, passes}
+use Rattle.map_check.specs.Fault.{kindFault}
+use Rattle.map_check.specs.Reply.{Reply, place, passes}
 use Rattle.sheet.specs.Answer.{Read, got, refused, next}
 use Rattle.sheet.specs.Number.{joined, lastGroup, groups, number}
 use Rattle.sheet.specs.Region.{fieldAt, fieldsFrom, ofKind, regionAt, sheetFields}

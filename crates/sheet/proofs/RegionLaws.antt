@@ -8,7 +8,7 @@ use lib.Dec.{ltb}
 use lib.ListN.{getD, drop, drop-of-length-le}
 use lib.Seq.{drop-cons}
 use Rattle.map_records.specs.Map.{managed, has, withValue}
-use Rattle.region_map.specs.Reply.{Reply, place}
+use Rattle.map_check.specs.Reply.{Reply, place}
 use Rattle.map_records.specs.declared.map.Region.{Region}
 use Rattle.map_records.specs.declared.map.Field.{Field}
 use Rattle.map_records.specs.declared.map.Field.the-variants.{Parent}

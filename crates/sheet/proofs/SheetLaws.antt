@@ -12,10 +12,10 @@ use borrow.Author.Tests.{ltb-false, eq-eqb, ne-eqb}
 use Rattle.map_records.specs.Map.{emptyMap}
 use Rattle.map_records.specs.Words.{mapOf, mapWords, regionWords}
 use Rattle.map_records.proofs.WordLaws.{region-stored, region-count-stored, map-back}
-use Rattle.region_map.proofs.Bools.{or-right, never}
-use Rattle.region_map.specs.Check.{reply, judged}
-use Rattle.region_map.specs.declared.check.MapAnswer.{MapAnswer}
-use Rattle.region_map.specs.Reply.{Reply, accepted, nodes, place, plain, passes}
+use Rattle.map_check.proofs.Bools.{or-right, never}
+use Rattle.map_check.specs.Check.{reply, judged}
+use Rattle.map_check.specs.declared.check.MapAnswer.{MapAnswer}
+use Rattle.map_check.specs.Reply.{Reply, accepted, nodes, place, plain, passes}
 use Rattle.map_records.specs.declared.map.Region.{Region}
 use Rattle.map_records.specs.declared.map.RegionMap.{RegionMap}
 use Rattle.sheet.proofs.RefusalLaws.{number-not, regions-not}

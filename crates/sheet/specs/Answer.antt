@@ -1,7 +1,7 @@
 -- What reading a sheet answers in document 01's terms. Assumes nothing: these are definitions.
 use Prim.Native.Nat.{ℕ}
-use Rattle.region_map.specs.Reply.{Reply, place, plain}
-use Rattle.region_map.specs.Check.{reply}
+use Rattle.map_check.specs.Reply.{Reply, place, plain}
+use Rattle.map_check.specs.Check.{reply}
 use Rattle.sheet.specs.declared.answer.SheetAnswer.{SheetAnswer}
 use Rattle.sheet.specs.declared.answer.SheetAnswer.the-variants.{Short, Number, Count, Kind, Tail, Record, Checked}
 

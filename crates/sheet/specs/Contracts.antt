@@ -5,7 +5,7 @@ use mathlib.Core.List.{List}
 use Prim.Native.Nat.{ℕ}
 use lib.ListN.{length}
 use Rattle.map_records.specs.Words.{mapOf}
-use Rattle.region_map.specs.Reply.{passes}
+use Rattle.map_check.specs.Reply.{passes}
 use Rattle.map_records.specs.declared.map.Region.{Region}
 use Rattle.map_records.specs.declared.map.RegionMap.{RegionMap}
 use Rattle.sheet.specs.Answer.{Read, got, refused, sheetReply}

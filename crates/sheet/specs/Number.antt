@@ -4,7 +4,7 @@ use mathlib.Core.List.{List}
 use Prim.Native.Nat.{ℕ, zero, suc, _+_, _-_, _*_}
 use lib.Dec.{eqb, leb, ltb}
 use lib.ListN.{length, getD}
-use Rattle.region_map.specs.Reply.{place}
+use Rattle.map_check.specs.Reply.{place}
 use Rattle.sheet.specs.Answer.{Read, got, refused, sheetReply}
 use Rattle.sheet.specs.declared.number.NumberRead.{NumberRead}
 use Rattle.sheet.specs.declared.number.NumberRead.the-variants.{Value, Refused}

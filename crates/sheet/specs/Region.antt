@@ -3,8 +3,8 @@ use mathlib.Core.Bool.{cond}
 use mathlib.Core.List.{List, [], _∷_}
 use Prim.Native.Nat.{ℕ}
 use Rattle.map_records.specs.Map.{has, withValue}
-use Rattle.region_map.specs.Fault.{kindFault}
-use Rattle.region_map.specs.Reply.{place}
+use Rattle.map_check.specs.Fault.{kindFault}
+use Rattle.map_check.specs.Reply.{place}
 use Rattle.map_records.specs.declared.map.Region.{Region}
 use Rattle.map_records.specs.declared.map.Field.{Field}
 use Rattle.map_records.specs.declared.map.Field.the-variants.{Parent, Offset, Size, Priority, MemoryStart, Port, Target, AliasOffset}

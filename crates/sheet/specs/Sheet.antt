@@ -6,8 +6,8 @@ use lib.Dec.{eqb, ltb}
 use lib.ListN.{length, replicate, set}
 use Rattle.map_records.specs.Map.{noRegion, emptyMap}
 use Rattle.map_records.specs.Words.{mapWords}
-use Rattle.region_map.specs.Reply.{Reply, accepted, place, plain, passes, ifAccepted}
-use Rattle.region_map.specs.Check.{countFault, judged}
+use Rattle.map_check.specs.Reply.{Reply, accepted, place, plain, passes, ifAccepted}
+use Rattle.map_check.specs.Check.{countFault, judged}
 use Rattle.map_records.specs.declared.map.Region.{Region}
 use Rattle.map_records.specs.declared.map.RegionMap.{RegionMap}
 use Rattle.sheet.specs.Answer.{Read, got, refused, next}

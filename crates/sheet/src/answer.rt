@@ -1,9 +1,9 @@
 // What reading a sheet can answer.
 ghost use mathlib.Core.Path.{_≡_};
-ghost use Rattle.region_map.specs.Reply.{numberOf};
+ghost use Rattle.map_check.specs.Reply.{numberOf};
 ghost use Rattle.sheet.specs.Answer.{sheetReply};
-use region_map::check;
-use region_map::check::MapAnswer;
+use map_check::check;
+use map_check::check::MapAnswer;
 
 // A refusal of document 01 at a byte place, 1 to 5; or the sheet was read to its end, and this is what
 // the map's check says; or the lent words are not those of a map.

@@ -3,7 +3,7 @@ ghost use mathlib.Core.Path.{_≡_};
 ghost use lib.ListN.{length};
 ghost use Rattle.map_records.specs.Map.{emptyMap};
 ghost use Rattle.map_records.specs.Words.{mapOf};
-ghost use Rattle.region_map.specs.Reply.{passes};
+ghost use Rattle.map_check.specs.Reply.{passes};
 ghost use Rattle.sheet.specs.Answer.{sheetReply};
 ghost use Rattle.sheet.specs.Sheet.{readSheet, readInto};
 ghost use Rattle.sheet.specs.Contracts.{Reads};
@@ -13,10 +13,10 @@ use crate::number::NumberRead;
 use crate::number::read_number;
 use crate::regions::Progress;
 use crate::regions::read_regions;
+use map_check::check::accepts;
+use map_check::check::check_map;
 use map_records::words::copy_words;
 use map_records::words::put_region_count;
-use region_map::check::accepts;
-use region_map::check::check_map;
 
 // The sheet's map, laid into words that are all zero: accepted, or the refusal.
 fn read_map(sheet: &[u8], memory_length: u64, map: &mut [u64]) -> SheetAnswer

@@ -2,7 +2,7 @@
 use mathlib.Core.Path.{_≡_, refl, sym, ap, _∙_}
 use mathlib.Core.Bool.{cond}
 use lib.Dec.{eqb}
-use Rattle.region_map.specs.Reply.{Reply, numberOf}
+use Rattle.map_check.specs.Reply.{Reply, numberOf}
 use Rattle.region_map.specs.Resolve as look
 use Rattle.region_map.specs.declared.resolve.Resolved.the-variants as resolved
 use Rattle.virtqueue.specs.Look.{lookedBy}

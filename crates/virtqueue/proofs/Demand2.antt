@@ -10,8 +10,8 @@ use lib.Dec.{eqb, ltb}
 use lib.ListN.{length}
 use borrow.Author.Tests.{eqb-true, eqb-false, eq-eqb, ne-eqb, lt-ltb, le-ltb}
 use Rattle.map_records.specs.declared.view.FlatView.{FlatView}
-use Rattle.region_map.specs.Reply.{accepted, plain}
-use Rattle.region_map.proofs.Bools.{never}
+use Rattle.map_check.specs.Reply.{accepted, plain}
+use Rattle.map_check.proofs.Bools.{never}
 use Rattle.device_words.specs.Device.{MemoryDevice}
 use Rattle.guest_view.specs.Guest.{Guest, allReach, byView}
 use Rattle.virtqueue.specs.Queue.{areasOk, made, ringEntry}

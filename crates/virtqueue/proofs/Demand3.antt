@@ -9,10 +9,10 @@ use lib.ListN.{length}
 use Rattle.map_records.specs.Words.{mapOf, viewOf}
 use Rattle.map_records.specs.declared.map.RegionMap.{RegionMap}
 use Rattle.map_records.specs.declared.view.FlatView.{FlatView}
-use Rattle.region_map.specs.Check.{Accepted}
-use Rattle.region_map.specs.Reply.{accepted}
+use Rattle.map_check.specs.Check.{Accepted}
+use Rattle.map_check.specs.Reply.{accepted}
 use Rattle.region_map.specs.Flatten.{flatList, viewHolding, flattenedInto}
-use Rattle.region_map.proofs.Bools.{never}
+use Rattle.map_check.proofs.Bools.{never}
 use Rattle.device_words.specs.Device.{MemoryDevice}
 use Rattle.device_words.specs.Words.{deviceOf}
 use Rattle.guest_view.specs.Guest.{Guest, byView, byTree}

@@ -7,7 +7,7 @@ use lib.Dec.{eqb}
 use lib.ListN.{length}
 use borrow.Author.Tests.{eqb-true, eqb-false}
 use Rattle.map_records.specs.declared.view.FlatView.{FlatView}
-use Rattle.region_map.proofs.Bools.{never, and-fst, and-snd}
+use Rattle.map_check.proofs.Bools.{never, and-fst, and-snd}
 use Rattle.device_words.specs.Device.{MemoryDevice, noBlocks, withPlugged, deviceOk}
 use Rattle.device_words.specs.Request.{requestOf, plug, unplug, unplugAll, answered, withRun, isAck, changedBy}
 use Rattle.device_words.specs.Words.{isDevice, deviceOf, deviceWords}

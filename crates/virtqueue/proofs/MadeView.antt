@@ -10,7 +10,7 @@ use lib.Dec.{eqb, ltb}
 use lib.ListN.{length, getD, replicate, List·getD-append}
 use borrow.Author.Tests.{lt-ltb, eq-eqb, ne-eqb, eqb-true, eqb-false}
 use Rattle.map_records.specs.Map.{ram, mmio, managed, region}
-use Rattle.region_map.specs.Check.{Accepted}
+use Rattle.map_check.specs.Check.{Accepted}
 use Rattle.region_map.specs.FlatList.{answerOf, lookup, Entry, Chain, Longest}
 use Rattle.region_map.specs.Flatten.{backingOf, flatList, viewHolding}
 use Rattle.map_records.specs.View.{noRange}
@@ -20,7 +20,7 @@ use Rattle.map_records.specs.declared.map.RegionMap.{RegionMap}
 use Rattle.map_records.specs.declared.view.FlatRange.{FlatRange}
 use Rattle.map_records.specs.declared.view.FlatView.{FlatView}
 use Rattle.region_map.specs.declared.flat.Backing.{Backing}
-use Rattle.region_map.proofs.Accepted.{accepted-sound}
+use Rattle.map_check.proofs.Accepted.{accepted-sound}
 use Rattle.region_map.proofs.LeafLaws.{root-leaf}
 use Rattle.region_map.proofs.UniqueLaws.{sound, here, later}
 use Rattle.region_map.proofs.Demand3.{list-gives, list-longest, made-lawful}

@@ -12,9 +12,9 @@ use Rattle.map_records.specs.declared.map.RegionMap.{RegionMap}
 use Rattle.map_records.specs.declared.view.FlatView.{FlatView}
 use Rattle.map_records.proofs.WordLaws.{ranges-grouped, view-back}
 use Rattle.map_records.proofs.GroupLaws.{puts-length, puts-injective}
-use Rattle.region_map.specs.Check.{judged, Accepted}
-use Rattle.region_map.specs.Reply as reply
-use Rattle.region_map.specs.Reply.{Reply, accepted, plain, ifAccepted}
+use Rattle.map_check.specs.Check.{judged, Accepted}
+use Rattle.map_check.specs.Reply as reply
+use Rattle.map_check.specs.Reply.{Reply, accepted, plain, ifAccepted}
 use Rattle.region_map.specs.Flatten.{Outcome, flatList, viewHolding, refusal, listed, flattened, laidInto, isView, flattenedInto}
 use Rattle.region_map.specs.Flatten as flatten
 use Rattle.region_map.proofs.Demand3.{demand3-first-half, refused-12}

@@ -5,7 +5,7 @@ use mathlib.Core.List.{List, [], _∷_}
 use Prim.Native.Nat.{ℕ, zero, suc, _+_, _<_, min}
 use lib.ListN.{length}
 use Rattle.map_records.specs.declared.view.FlatView.{FlatView}
-use Rattle.region_map.proofs.Bools.{never, and-fst, and-snd}
+use Rattle.map_check.proofs.Bools.{never, and-fst, and-snd}
 use Rattle.device_words.specs.Table.{bitAt}
 use Rattle.device_words.specs.Device.{MemoryDevice, fresh, deviceOk}
 use Rattle.device_words.specs.Request.{requestOf, carriedOut, Outcome}

@@ -5,7 +5,7 @@ use mathlib.Core.List.{List, [], _∷_, _++_, map}
 use Prim.Native.Nat.{ℕ, zero, suc, _+_, _-_, _*_, _≤_, min}
 use native.Mathlib.Omega.{arith}
 use lib.ListN.{getD}
-use Rattle.region_map.proofs.Bools.{and-fst, and-snd}
+use Rattle.map_check.proofs.Bools.{and-fst, and-snd}
 use Rattle.guest_view.specs.Guest.{Guest, allReach, addresses, byteAt, numberAt}
 use Rattle.device_words.specs.Bytes.{numberBy}
 use Rattle.virtqueue.specs.Chain.{Chain, Entry, out, here, whole, ended, rejected, element, Following, onward, astray, nextBelow, goOn, misplaced, hasNext, isWritable, visit, follow, readable, writable, firstBytes, fetched, chainAt}

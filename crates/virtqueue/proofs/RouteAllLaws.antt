@@ -9,7 +9,7 @@ use lib.Dec.{eqb}
 use lib.ListN.{replicate, length, getD, length-append}
 use lib.Seq.{sets}
 use borrow.Author.Tests.{eqb-true, eqb-false, eq-eqb, ne-eqb}
-use Rattle.region_map.proofs.Bools.{and-fst, and-snd, and-true, and-off}
+use Rattle.map_check.proofs.Bools.{and-fst, and-snd, and-true, and-off}
 use Rattle.map_records.specs.View.{entries}
 use Rattle.map_records.specs.declared.view.FlatView.{FlatView}
 use Rattle.device_words.specs.Device.{MemoryDevice, deviceOk, pluggedIn}

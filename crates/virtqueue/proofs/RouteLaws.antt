@@ -14,13 +14,13 @@ use Rattle.map_records.specs.Map.{mmio, managed}
 use Rattle.region_map.specs.FlatList.{inside, lookup, answerOf}
 use Rattle.map_records.specs.View.{entries, noRange}
 use Rattle.map_records.specs.View.{rangeOf}
-use Rattle.region_map.specs.Reply.{plain}
+use Rattle.map_check.specs.Reply.{plain}
 use Rattle.region_map.specs.Resolve as look
 use Rattle.region_map.specs.declared.resolve.Resolved.{Resolved}
 use Rattle.region_map.specs.declared.resolve.Resolved.the-variants as resolved
 use Rattle.map_records.specs.declared.view.FlatRange.{FlatRange}
 use Rattle.map_records.specs.declared.view.FlatView.{FlatView}
-use Rattle.region_map.proofs.Bools.{never, and-fst, and-snd}
+use Rattle.map_check.proofs.Bools.{never, and-fst, and-snd}
 use Rattle.device_words.specs.Table.{bitAt, allBelow}
 use Rattle.device_words.specs.Device.{pluggedIn}
 use Rattle.device_words.proofs.TableLaws.{all-true, all-of, all-not, zero-bit}

@@ -6,7 +6,7 @@ use Prim.Native.Nat.{ℕ, zero, suc, _+_, _-_, min}
 use native.Mathlib.Omega.{arith}
 use lib.ListN.{length, set, length-set}
 use Rattle.map_records.specs.declared.view.FlatView.{FlatView}
-use Rattle.region_map.proofs.Bools.{and-fst, and-snd, and-true}
+use Rattle.map_check.proofs.Bools.{and-fst, and-snd, and-true}
 use Rattle.device_words.specs.Device.{deviceOk, withTables}
 use Rattle.device_words.specs.Request.{requestOf, answered, isAck, acknowledged, changedBy}
 use Rattle.device_words.specs.Device.{MemoryDevice}

@@ -9,7 +9,7 @@ use lib.Dec.{eqb}
 use lib.ListN.{length, getD, set, replicate}
 use lib.Seq.{sets}
 use borrow.Author.Tests.{eq-eqb}
-use Rattle.region_map.proofs.Bools.{and-fst, and-snd}
+use Rattle.map_check.proofs.Bools.{and-fst, and-snd}
 use Rattle.map_records.proofs.StoreLaws.{sets-append, over}
 use Rattle.map_records.specs.View.{entries}
 use Rattle.map_records.specs.declared.view.FlatView.{FlatView}

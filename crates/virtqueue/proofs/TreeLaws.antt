@@ -4,7 +4,7 @@ use mathlib.Core.Bool.{Bool, true, false, cond}
 use mathlib.Core.List.{List, [], _∷_}
 use Prim.Native.Nat.{ℕ, _+_, _-_, _≤_}
 use lib.ListN.{length}
-use Rattle.region_map.specs.Check.{Accepted}
+use Rattle.map_check.specs.Check.{Accepted}
 use Rattle.region_map.specs.FlatList.{inside, answerOf, lookup, Entry, Longest}
 use Rattle.region_map.specs.Flatten.{backingOf, flatList, viewHolding}
 use Rattle.map_records.specs.View.{entries}

@@ -12,8 +12,8 @@ use Rattle.map_records.specs.View.{rangeOf}
 use Rattle.map_records.specs.Words.{mapOf, viewOf}
 use Rattle.map_records.specs.declared.map.RegionMap.{RegionMap}
 use Rattle.map_records.specs.declared.view.FlatView.{FlatView}
-use Rattle.region_map.specs.Check.{Accepted}
-use Rattle.region_map.specs.Reply.{accepted}
+use Rattle.map_check.specs.Check.{Accepted}
+use Rattle.map_check.specs.Reply.{accepted}
 use Rattle.region_map.specs.Walk.{walkRoot}
 use Rattle.region_map.specs.Flatten.{flatList, viewHolding, flattenedInto}
 use Rattle.region_map.specs.declared.resolve.Resolved.{Resolved}

@@ -4,7 +4,7 @@ use mathlib.Core.Bool.{Bool, true, false, cond}
 use mathlib.Core.List.{List, [], _∷_}
 use Prim.Native.Nat.{ℕ, zero, suc, min}
 use Rattle.map_records.specs.declared.view.FlatView.{FlatView}
-use Rattle.region_map.specs.Reply.{accepted}
+use Rattle.map_check.specs.Reply.{accepted}
 use Rattle.device_words.specs.Device.{MemoryDevice}
 use Rattle.guest_view.specs.Guest.{byView}
 use Rattle.memory_device.specs.Request.{carried}

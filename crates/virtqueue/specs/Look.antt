@@ -2,7 +2,7 @@
 use mathlib.Core.Bool.{cond}
 use Prim.Native.Nat.{ℕ}
 use Rattle.region_map.specs.FlatList.{lookup}
-use Rattle.region_map.specs.Reply.{plain}
+use Rattle.map_check.specs.Reply.{plain}
 use Rattle.region_map.specs.Resolve.{Led, refused, leads}
 use Rattle.map_records.specs.View.{entries}
 use Rattle.region_map.specs.declared.resolve.Resolved.the-variants as resolved

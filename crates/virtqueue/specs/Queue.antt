@@ -2,8 +2,8 @@
 use mathlib.Core.Bool.{Bool, cond, _&&_, _||_}
 use Prim.Native.Nat.{ℕ, _+_, _-_, _*_, _%_}
 use lib.Dec.{eqb, leb}
-use Rattle.region_map.specs.Fault.{limit}
-use Rattle.region_map.specs.Reply.{Reply, accepted, plain}
+use Rattle.map_check.specs.Fault.{limit}
+use Rattle.map_check.specs.Reply.{Reply, accepted, plain}
 use Rattle.virtqueue.specs.declared.queue.SplitQueue.{SplitQueue}
 use Rattle.virtqueue.specs.declared.queue.QueueAnswer.{QueueAnswer}
 use Rattle.virtqueue.specs.declared.queue.QueueAnswer.the-variants as answer

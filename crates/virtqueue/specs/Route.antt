@@ -7,7 +7,7 @@ use lib.Dec.{eqb}
 use lib.ListN.{length, getD}
 use Rattle.map_records.specs.Map.{mmio, managed}
 use Rattle.map_records.specs.View.{entries}
-use Rattle.region_map.specs.Reply.{Reply, accepted, plain}
+use Rattle.map_check.specs.Reply.{Reply, accepted, plain}
 use Rattle.map_records.specs.declared.view.FlatView.{FlatView}
 use Rattle.device_words.specs.Table.{allBelow}
 use Rattle.device_words.specs.Device.{MemoryDevice, deviceOk, pluggedAt}

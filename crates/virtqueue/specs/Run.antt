@@ -5,7 +5,7 @@ use mathlib.Core.Path.{_≡_}
 use Prim.Native.Nat.{ℕ, zero, suc, _+_, min}
 use lib.ListN.{length}
 use Rattle.map_records.specs.declared.view.FlatView.{FlatView}
-use Rattle.region_map.specs.Reply.{Reply, accepted, plain}
+use Rattle.map_check.specs.Reply.{Reply, accepted, plain}
 use Rattle.device_words.specs.Device.{MemoryDevice}
 use Rattle.guest_view.specs.Guest.{byView}
 use Rattle.virtqueue.specs.Step.{Answer, refused, served, Effect, steppedBy, recordsOk, stepped}

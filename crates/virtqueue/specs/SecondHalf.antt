@@ -7,7 +7,7 @@ use lib.ListN.{length}
 use Rattle.map_records.specs.Words.{viewOf}
 use Rattle.map_records.specs.declared.map.RegionMap.{RegionMap}
 use Rattle.map_records.specs.declared.view.FlatView.{FlatView}
-use Rattle.region_map.specs.Check.{Accepted}
+use Rattle.map_check.specs.Check.{Accepted}
 use Rattle.region_map.specs.Flatten.{flatList, viewHolding}
 use Rattle.device_words.specs.Device.{MemoryDevice}
 use Rattle.guest_view.specs.Guest.{Guest, byView}

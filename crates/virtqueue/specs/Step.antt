@@ -4,7 +4,7 @@ use mathlib.Core.List.{List, _++_, map}
 use Prim.Native.Nat.{ℕ, _+_, _%_}
 use lib.Dec.{eqb, leb, ltb}
 use lib.ListN.{length}
-use Rattle.region_map.specs.Reply.{Reply, accepted, plain}
+use Rattle.map_check.specs.Reply.{Reply, accepted, plain}
 use Rattle.map_records.specs.declared.view.FlatView.{FlatView}
 use Rattle.device_words.specs.Bytes.{le}
 use Rattle.device_words.specs.Device.{MemoryDevice, deviceOk}

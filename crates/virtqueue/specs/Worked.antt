@@ -5,7 +5,7 @@ use Prim.Native.Nat.{ℕ}
 use lib.ListN.{replicate}
 use Rattle.map_records.specs.Map.{ram}
 use Rattle.map_records.specs.declared.view.FlatView.{FlatView}
-use Rattle.region_map.specs.Reply.{passes, numberOf}
+use Rattle.map_check.specs.Reply.{passes, numberOf}
 use Rattle.device_words.specs.Bytes.{le}
 use Rattle.device_words.specs.Device.{MemoryDevice}
 use Rattle.device_words.specs.Request.{Outcome}

@@ -1,7 +1,7 @@
 // The device side's record of a split queue.
 ghost use mathlib.Core.Path.{_≡_};
 ghost use Prim.Native.Nat.{_<_};
-ghost use Rattle.region_map.specs.Reply.{numberOf};
+ghost use Rattle.map_check.specs.Reply.{numberOf};
 ghost use Rattle.virtqueue.specs.Queue.{sizeOk, areaOk, areasOk, stopOk, queueOk, noQueue, made, wasReset, queueReply, givenBy};
 use map_records::map::GuestAddress;
 use map_records::numbers::sum_within;

@@ -5,7 +5,7 @@ ghost use mathlib.Core.List.{[], _∷_};
 ghost use Prim.Native.Nat.{_+_, _*_, _≤_, _<_};
 ghost use lib.ListN.{length};
 ghost use lib.Seq.{sets};
-ghost use Rattle.region_map.specs.Reply.{numberOf};
+ghost use Rattle.map_check.specs.Reply.{numberOf};
 ghost use Rattle.device_words.specs.Table.{allBelow};
 ghost use Rattle.device_words.specs.Device.{pluggedIn};
 ghost use Rattle.device_words.specs.Words.{deviceOf};

@@ -1,6 +1,6 @@
 // One step of the queue, with records by value.
 ghost use mathlib.Core.Path.{_≡_};
-ghost use Rattle.region_map.specs.Reply.{numberOf};
+ghost use Rattle.map_check.specs.Reply.{numberOf};
 ghost use Rattle.map_records.specs.Words.{viewOf};
 ghost use Rattle.memory_device.specs.Record.{recordOf};
 ghost use Rattle.virtqueue.specs.Step.{stepped, stepReply};

@@ -5,8 +5,8 @@ use mathlib.Core.List.{List}
 use Prim.Native.Nat.{ℕ}
 use lib.ListN.{length}
 use borrow.Author.Tests.{eqb-true}
-use Rattle.region_map.proofs.Bools.{and-snd}
-use Rattle.region_map.specs.Reply.{Reply}
+use Rattle.map_check.proofs.Bools.{and-snd}
+use Rattle.map_check.specs.Reply.{Reply}
 use Rattle.wicktumble.specs.Result.{Told, Tells, told, tells, untold, isResult}
 use Rattle.wicktumble.specs.Contracts.{toldBy, Says, SaysReply}
 use Rattle.wicktumble.specs.Maps.{Made, Makes, makes, unmade}

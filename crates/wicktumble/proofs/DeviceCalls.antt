@@ -8,7 +8,7 @@ use native.Mathlib.Omega.{arith}
 use lib.Dec.{eqb}
 use lib.ListN.{length}
 use borrow.Author.Tests.{eq-eqb, ne-eqb}
-use Rattle.region_map.specs.Reply.{numberOf, passes}
+use Rattle.map_check.specs.Reply.{numberOf, passes}
 use Rattle.device_words.specs.Device.{MemoryDevice}
 use Rattle.device_words.specs.Words.{deviceOf, deviceWords}
 use Rattle.memory_device.specs.Record.{Outcome, hostReply}

@@ -8,9 +8,9 @@ use lib.Dec.{eqb, leb}
 use lib.ListN.{length, getD}
 use borrow.Author.Tests.{eqb-true, leb-true, eq-eqb, ne-eqb}
 use Rattle.map_records.specs.Words.{viewOf}
-use Rattle.region_map.specs.Reply.{numberOf, passes}
+use Rattle.map_check.specs.Reply.{numberOf, passes}
 use Rattle.region_map.specs.Flatten.{isView}
-use Rattle.region_map.proofs.Bools.{and-fst, and-snd}
+use Rattle.map_check.proofs.Bools.{and-fst, and-snd}
 use Rattle.device_words.specs.Device.{MemoryDevice}
 use Rattle.device_words.specs.Words.{isDevice, deviceOf, deviceWords}
 use Rattle.virtqueue.specs.Queue.{sizeOk, areasOk, made, queueReply, givenBy}

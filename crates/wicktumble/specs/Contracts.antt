@@ -1,7 +1,7 @@
 -- What the functions inside the crate promise each other. Assumes nothing: these are definitions.
 use mathlib.Core.Path.{_≡_}
 use Prim.Native.Nat.{ℕ}
-use Rattle.region_map.specs.Reply.{Reply, numberOf}
+use Rattle.map_check.specs.Reply.{Reply, numberOf}
 use Rattle.wicktumble.specs.Result.{Told, told, firstOf, secondOf}
 use Rattle.wicktumble.specs.declared.result.Said.{Said}
 

@@ -6,7 +6,7 @@ use Prim.Native.Nat.{ℕ}
 use lib.Dec.{eqb}
 use lib.ListN.{length}
 use Rattle.map_records.specs.Words.{mapOf}
-use Rattle.region_map.specs.Reply.{numberOf}
+use Rattle.map_check.specs.Reply.{numberOf}
 use Rattle.sheet.specs.Sheet.{isMap}
 use Rattle.device_words.specs.Request as request
 use Rattle.device_words.specs.Words.{isDevice, deviceOf}

@@ -4,8 +4,8 @@ use mathlib.Core.Bool.{cond, _&&_}
 use mathlib.Core.List.{List}
 use Prim.Native.Nat.{ℕ}
 use Rattle.map_records.specs.Words.{mapOf}
-use Rattle.region_map.specs.Reply.{Reply}
-use Rattle.region_map.specs.Check.{judged}
+use Rattle.map_check.specs.Reply.{Reply}
+use Rattle.map_check.specs.Check.{judged}
 use Rattle.region_map.specs.Resolve.{Led, refused, leads, resolved}
 use Rattle.region_map.specs.Flatten.{isView, flattenedInto}
 use Rattle.region_map.specs.declared.resolve.Resolved.the-variants.{Nothing, At}

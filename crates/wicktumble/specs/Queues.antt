@@ -6,7 +6,7 @@ use Prim.Native.Nat.{ℕ, _≤_}
 use lib.Dec.{eqb, leb}
 use lib.ListN.{length, getD}
 use Rattle.map_records.specs.Words.{viewOf}
-use Rattle.region_map.specs.Reply.{numberOf, passes}
+use Rattle.map_check.specs.Reply.{numberOf, passes}
 use Rattle.region_map.specs.Flatten.{isView}
 use Rattle.device_words.specs.Words.{isDevice, deviceOf, deviceWords}
 use Rattle.device_words.specs.Device.{MemoryDevice}

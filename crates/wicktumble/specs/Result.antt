@@ -5,7 +5,7 @@ use mathlib.Core.List.{List, [], _∷_}
 use Prim.Native.Nat.{ℕ}
 use lib.Dec.{eqb}
 use lib.ListN.{length}
-use Rattle.region_map.specs.Reply.{Reply, accepted, nodes, place, plain, numberOf}
+use Rattle.map_check.specs.Reply.{Reply, accepted, nodes, place, plain, numberOf}
 
 pub record Told : Type 0 where
   pub number : ℕ

@@ -1,11 +1,11 @@
 // What a call says beside its number: the three words of its result.
 ghost use mathlib.Core.Path.{_≡_};
 ghost use lib.ListN.{length};
-ghost use Rattle.region_map.specs.Check.{reply};
+ghost use Rattle.map_check.specs.Check.{reply};
 ghost use Rattle.wicktumble.specs.Result.{Tells};
 ghost use Rattle.wicktumble.specs.Contracts.{toldBy, Says, SaysReply};
-use region_map::check;
-use region_map::check::MapAnswer;
+use map_check::check;
+use map_check::check::MapAnswer;
 
 pub struct Said {
     pub number: u64,

@@ -2,7 +2,7 @@
 use mathlib.Core.Path.{sym, _∙_}
 use Rattle.device_words.specs.Device.{isPinned}
 use Rattle.device_words.specs.Words.{deviceAt}
-use Rattle.region_map.proofs.Bools.{never}
+use Rattle.map_check.proofs.Bools.{never}
 use Rattle.device_words.proofs.DeviceWords.{pins-length}
 use Rattle.device_words.proofs.TableLaws.{past-bit}
 use Rattle.device_words.proofs.WordLaws.{any-one}

@@ -5,7 +5,7 @@ use native.Mathlib.Omega.{arith}
 use lib.ListN.{length-replicate}
 use lib.Seq.{length-take-le}
 use Rattle.map_records.specs.declared.map.RegionMap.{RegionMap}
-use Rattle.region_map.specs.Check.{Accepted}
+use Rattle.map_check.specs.Check.{Accepted}
 use Rattle.sheet.specs.Sheet.{readSheet}
 use Rattle.sheet.proofs.ReadLaws.{ReadAs, read-as, sheet-accepted}
 use Rattle.listing.proofs.TextLaws.{puts-size, fills-put, sheet-refused, sheet-passed}

@@ -3,7 +3,7 @@ use native.Mathlib.Omega.{arith}
 use borrow.Author.Needs.{needs}
 use mathlib.Core.Path.{sym, _∙_}
 use Prim.Native.Nat.{_+_, _≤_}
-use Rattle.region_map.proofs.Bools.{never}
+use Rattle.map_check.proofs.Bools.{never}
 use Rattle.device_words.proofs.RuleLaws.{blocks-mono}
 use Rattle.guest_view.proofs.ReachLaws.{run-order, run-true}
 use Rattle.guest_view.proofs.reach.run_plugged.Statement.{statement}

@@ -2,12 +2,12 @@
 use Rattle.memory_device.proofs.SetUpLaws.{set-up-done, set-up-values, set-up-refused}
 use Rattle.memory_device.specs.SetUp.{regionSize}
 use Rattle.device_words.specs.Device.{setupOk}
-use Rattle.region_map.proofs.Accepted.{is-accepted, passed-reply, accepted-sound}
+use Rattle.map_check.proofs.Accepted.{is-accepted, passed-reply, accepted-sound}
 use Rattle.map_records.specs.Words.{mapOf}
-use Rattle.region_map.proofs.MapWords.{accepted-words}
-use Rattle.region_map.specs.Check.{reply, Accepted}
+use Rattle.map_check.proofs.MapWords.{accepted-words}
+use Rattle.map_check.specs.Check.{reply, Accepted}
 use mathlib.Core.Path.{_≡_, sym, ap, _∙_}
-use Rattle.region_map.specs.Reply.{Reply, plain}
+use Rattle.map_check.specs.Reply.{Reply, plain}
 use Rattle.device_words.specs.Device.{MemoryDevice}
 use Rattle.memory_device.specs.Record.{Outcome}
 use borrow.Author.Needs.{needs}

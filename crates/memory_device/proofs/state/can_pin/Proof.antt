@@ -4,7 +4,7 @@ use Prim.Native.Nat.{_/_, _<_}
 use native.Mathlib.Omega.{arith}
 use lib.Dec.{ltb}
 use borrow.Author.Tests.{ltb-true}
-use Rattle.region_map.proofs.Bools.{and-fst}
+use Rattle.map_check.proofs.Bools.{and-fst}
 use Rattle.device_words.specs.Device.{isPinned}
 use Rattle.device_words.specs.Table.{bitAt}
 use Rattle.device_words.specs.Words.{deviceAt}

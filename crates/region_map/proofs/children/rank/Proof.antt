@@ -4,7 +4,7 @@ use mathlib.Core.Path.{ap, _∙_}
 use Prim.Native.Nat.{ℕ, _+_, _*_}
 use native.Mathlib.Omega.{arith}
 use Rattle.map_records.specs.declared.map.Region.{Region}
-use Rattle.region_map.specs.Clash.{priorityOf}
+use Rattle.map_check.specs.Clash.{priorityOf}
 use Rattle.map_records.specs.Map.{region}
 use Rattle.region_map.specs.Walk.{rank}
 use Rattle.map_records.specs.Words.{mapOf}

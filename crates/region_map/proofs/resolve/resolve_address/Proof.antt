@@ -3,10 +3,10 @@ use Prim.Native.Nat.{ℕ, _-_}
 use mathlib.Core.Path.{_≡_, sym, ap, _∙_}
 use native.Mathlib.Omega.{arith}
 use Rattle.map_records.specs.Words.{mapOf}
-use Rattle.region_map.specs.Check.{Accepted}
+use Rattle.map_check.specs.Check.{Accepted}
 use Rattle.region_map.specs.Walk.{walk, walkRoot}
-use Rattle.region_map.proofs.Accepted.{is-accepted}
-use Rattle.region_map.proofs.MapWords.{accepted-words, accepted-tree, accepted-some}
+use Rattle.map_check.proofs.Accepted.{is-accepted}
+use Rattle.map_check.proofs.MapWords.{accepted-words, accepted-tree, accepted-some}
 use Rattle.region_map.proofs.ResolveLaws.{led, not-led}
 use borrow.Author.Needs.{needs}
 use Rattle.region_map.proofs.resolve.resolve_address.Statement.{statement}

@@ -3,7 +3,7 @@ use native.Mathlib.Omega.{arith}
 use borrow.Author.Needs.{needs}
 use mathlib.Core.Path.{_≡_, sym, ap, ap₂, _∙_}
 use mathlib.Core.Bool.{Bool, true, _&&_}
-use Rattle.region_map.proofs.Bools.{and-fst, and-snd}
+use Rattle.map_check.proofs.Bools.{and-fst, and-snd}
 use Rattle.device_words.specs.Device.{deviceOk}
 use Rattle.device_words.specs.Words.{deviceOf}
 use Rattle.device_words.proofs.DeviceWords.{ok-length, ok-device, not-device}

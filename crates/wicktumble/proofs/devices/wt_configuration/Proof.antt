@@ -1,7 +1,7 @@
 -- `wicktumble::devices::wt_configuration` meets its contract. Assumes nothing.
 use borrow.Author.Needs.{needs}
 use mathlib.Core.Path.{ap, _∙_}
-use Rattle.region_map.specs.Reply.{numberOf}
+use Rattle.map_check.specs.Reply.{numberOf}
 use Rattle.wicktumble.proofs.devices.wt_configuration.Statement.{statement}
 use Rattle.wicktumble.proofs.devices.wt_configuration.Tie as tie
 

@@ -4,7 +4,7 @@ use mathlib.Core.Path.{ap, _∙_}
 use mathlib.Core.Bool.{_&&_}
 use borrow.Author.Tests.{eqb-true}
 use lib.ListN.{length}
-use Rattle.region_map.proofs.Bools.{and-fst, and-snd}
+use Rattle.map_check.proofs.Bools.{and-fst, and-snd}
 use Rattle.sheet.specs.Sheet.{isMap}
 use Rattle.device_words.specs.Words.{isDevice}
 use Rattle.memory_device.specs.Record.{Outcome}

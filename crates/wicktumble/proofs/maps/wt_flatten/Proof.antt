@@ -3,7 +3,7 @@ use borrow.Author.Needs.{needs}
 use mathlib.Core.Bool.{_&&_}
 use Rattle.wicktumble.specs.Maps.{flattenCall}
 use Rattle.region_map.specs.Flatten.{isView}
-use Rattle.region_map.proofs.Bools.{and-snd}
+use Rattle.map_check.proofs.Bools.{and-snd}
 use Rattle.sheet.specs.Sheet.{isMap}
 use Rattle.wicktumble.specs.Result.{isResult}
 use Rattle.wicktumble.proofs.CallLaws.{taken, refused, result-fits, unmade-as, reply-made}

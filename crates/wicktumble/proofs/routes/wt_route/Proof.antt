@@ -3,7 +3,7 @@ use borrow.Author.Needs.{needs}
 use mathlib.Core.Path.{ap, _∙_}
 use mathlib.Core.Bool.{_&&_, _||_}
 use Rattle.region_map.specs.Flatten.{isView}
-use Rattle.region_map.proofs.Bools.{and-snd}
+use Rattle.map_check.proofs.Bools.{and-snd}
 use Rattle.device_words.specs.Words.{isDevice}
 use Rattle.wicktumble.specs.Result.{isResult}
 use Rattle.wicktumble.specs.Routes.{noDevice, routeTold, routeCall}

@@ -1,0 +1,8 @@
+pub mod Accepted
+pub mod Answers
+pub mod Bools
+mod FaultLaws
+mod First
+mod Found
+pub mod MapWords
+pub mod Replies

@@ -1,0 +1,38 @@
+-- The rules over two regions: the second half of 8, and 9 to 11. Assumes nothing: these are definitions.
+use mathlib.Core.Bool.{Bool, cond, _&&_, not}
+use Prim.Native.Nat.{ℕ, _+_, max}
+use lib.Dec.{eqb, ltb}
+use Rattle.map_records.specs.Map.{mmio, managed, region}
+use Rattle.map_check.specs.Fault.{backed}
+use Rattle.map_records.specs.declared.map.Region.{Region}
+use Rattle.map_records.specs.declared.map.RegionMap.{RegionMap}
+
+-- [a, a + s) and [b, b + t) share a number: the larger start lies in both
+abbrev pub share : ℕ → ℕ → ℕ → ℕ → Bool
+share a s b t = ltb (max a b) (a + s) && ltb (max a b) (b + t)
+
+-- 'The tree': priority field 0 means priority 0, f from 1 to 255 means f - 128. This is the priority + 128, whose order and equality are the priority's.
+abbrev pub priorityOf : Region → ℕ
+priorityOf r = cond (eqb (r .priority) 0) 128 (r .priority)
+
+-- 8: 'two such ranges share a byte'
+abbrev pub memoryClash : Region → Region → Bool
+memoryClash a b = backed a && backed b && share (a .«memory_start») (a .size) (b .«memory_start») (b .size)
+
+-- 9: 'more than one managed node'
+abbrev pub managedClash : Region → Region → Bool
+managedClash a b = eqb (a .kind) managed && eqb (b .kind) managed
+
+-- 10: 'two MMIO nodes with one port'
+abbrev pub portClash : Region → Region → Bool
+portClash a b = eqb (a .kind) mmio && eqb (b .kind) mmio && eqb (a .port) (b .port)
+
+-- two children of one parent
+abbrev pub siblings : Region → Region → Bool
+siblings a b = not (eqb (a .parent) 0) && eqb (a .parent) (b .parent)
+
+-- 11: 'two children of one parent, of equal priority, whose ranges share an address'
+unfoldable pub siblingClash : RegionMap → ℕ → ℕ → Bool
+siblingClash m i j =
+    siblings (region m i) (region m j) && eqb (priorityOf (region m i)) (priorityOf (region m j))
+    && share (region m i .offset) (region m i .size) (region m j .offset) (region m j .size)

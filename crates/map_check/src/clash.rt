@@ -1,0 +1,82 @@
+// The rules of document 01 over two regions.
+ghost use mathlib.Core.Path.{_≡_};
+ghost use Prim.Native.Nat.{_<_};
+ghost use Rattle.map_records.specs.Words.{mapOf};
+ghost use lib.ListN.{length};
+ghost use Rattle.map_check.specs.Clash.{share as shareOf, siblings as siblingsOf};
+ghost use Rattle.map_check.specs.Clash.{memoryClash, managedClash, portClash, siblingClash};
+ghost use Rattle.map_check.specs.Contracts.{clash};
+use crate::priority::priority_of;
+use map_records::map::MANAGED;
+use map_records::map::MMIO;
+use map_records::map::RAM;
+use map_records::map::Region;
+use map_records::words::region_at;
+
+// The rules that are searched for over all pairs: 8's shared byte, 9, 10 and 11.
+pub enum PairRule {
+    Memory,
+    Managed,
+    Ports,
+    Siblings,
+}
+
+// Do [a, a + s) and [b, b + t) share a number? No sum is taken, so none wraps.
+fn share(a: u64, s: u64, b: u64, t: u64) -> bool
+    ensures { λ r. ⌜ r ≡ shareOf a s b t ⌝ }
+{
+    if a < b {
+        return (b - a < s) & (0 < t);
+    }
+    (0 < s) & (a - b < t)
+}
+
+fn memory_clash(a: Region, b: Region) -> bool
+    ensures { λ r. ⌜ r ≡ memoryClash a b ⌝ }
+{
+    let first = (a.kind == RAM) | (a.kind == MANAGED);
+    let second = (b.kind == RAM) | (b.kind == MANAGED);
+    first & second & share(a.memory_start, a.size, b.memory_start, b.size)
+}
+
+fn managed_clash(a: Region, b: Region) -> bool
+    ensures { λ r. ⌜ r ≡ managedClash a b ⌝ }
+{
+    (a.kind == MANAGED) & (b.kind == MANAGED)
+}
+
+fn port_clash(a: Region, b: Region) -> bool
+    ensures { λ r. ⌜ r ≡ portClash a b ⌝ }
+{
+    (a.kind == MMIO) & (b.kind == MMIO) & (a.port == b.port)
+}
+
+fn siblings(a: Region, b: Region) -> bool
+    ensures { λ r. ⌜ r ≡ siblingsOf a b ⌝ }
+{
+    !(a.parent == 0) & (a.parent == b.parent)
+}
+
+fn sibling_clash(map: &[u64], i: usize, j: usize) -> bool
+    requires { ⌜ (length (now map) ≡ 289) × (i < 32) × (j < 32) ⌝ }
+    ensures { λ r. ⌜ r ≡ siblingClash (mapOf (now (map .entry))) i j ⌝ }
+{
+    let a = region_at(map, i);
+    let b = region_at(map, j);
+    siblings(a, b) & (priority_of(a) == priority_of(b)) & share(a.offset, a.size, b.offset, b.size)
+}
+
+// Do regions i and j clash by the rule?
+pub fn clashes(map: &[u64], rule: PairRule, i: usize, j: usize) -> bool
+    requires { ⌜ (length (now map) ≡ 289) × (i < 32) × (j < 32) ⌝ }
+    ensures { λ r. ⌜ r ≡ clash rule (mapOf (now (map .entry))) i j ⌝ }
+{
+    let a = region_at(map, i);
+    let b = region_at(map, j);
+    match rule {
+        PairRule::Memory => memory_clash(a, b),
+        PairRule::Managed => managed_clash(a, b),
+        PairRule::Ports => port_clash(a, b),
+        PairRule::Siblings => sibling_clash(map, i, j),
+    }
+}
