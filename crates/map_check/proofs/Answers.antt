@@ -8,6 +8,10 @@ use Rattle.map_check.specs.Check.{reply}
 use Rattle.map_check.specs.declared.check.MapAnswer.{MapAnswer}
 use Rattle.map_check.specs.declared.check.MapAnswer.the-variants as answer
 
+-- what has a way back is injective
+pub injective : {A B : Type 0} (f : A → B) (g : B → A) → ((a : A) → g (f a) ≡ a) → (a b : A) → f a ≡ f b → a ≡ b
+injective f g back a b e = sym (back a) ∙ ap g e ∙ back b
+
 -- the answer of a number with its nodes
 abbrev pub answerOf : Reply → MapAnswer
 answerOf accepted = answer.Accepted
@@ -33,7 +37,7 @@ reply-back (answer.Port i j) = refl
 reply-back (answer.Overlap i j) = refl
 
 pub reply-injective : (a b : MapAnswer) → reply a ≡ reply b → a ≡ b
-reply-injective a b e = sym (reply-back a) ∙ ap answerOf e ∙ reply-back b
+reply-injective = injective reply answerOf reply-back
 
 -- the check accepts, or gives a number with two nodes: what holds of both holds of its answer
 pub reply-form : (P : Reply → Type 0) → P accepted → ((k i j : ℕ) → P (nodes k i j)) → (a : MapAnswer) → P (reply a)

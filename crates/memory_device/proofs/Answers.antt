@@ -1,5 +1,5 @@
 -- The promises fix the answers: two answers with one number are equal. Assumes nothing.
-use mathlib.Core.Path.{_≡_, refl, sym, ap, _∙_}
+use mathlib.Core.Path.{_≡_, refl, ap, _∙_}
 use mathlib.Core.Bool.{cond}
 use Prim.Native.Nat.{ℕ, suc}
 use lib.Dec.{eqb}
@@ -7,7 +7,7 @@ use Rattle.map_check.specs.Reply.{Reply, accepted, nodes, place, plain}
 use Rattle.map_check.specs.Check.{reply}
 use Rattle.map_check.specs.declared.check.MapAnswer.{MapAnswer}
 use Rattle.map_check.specs.declared.check.MapAnswer.the-variants as map
-use Rattle.map_check.proofs.Answers.{answerOf, reply-back}
+use Rattle.map_check.proofs.Answers.{injective, answerOf, reply-back}
 use Rattle.memory_device.specs.Record.{hostReply}
 use Rattle.memory_device.specs.SetUp.{setUpReply}
 use Rattle.memory_device.specs.declared.device.HostAnswer.{HostAnswer}
@@ -28,7 +28,7 @@ host-back Pin = refl
 host-back Record = refl
 
 pub host-reply-injective : (a b : HostAnswer) → hostReply a ≡ hostReply b → a ≡ b
-host-reply-injective a b e = sym (host-back a) ∙ ap hostOf e ∙ host-back b
+host-reply-injective = injective hostReply hostOf host-back
 
 abbrev setUpOf : Reply → SetUpAnswer
 setUpOf accepted = Checked (answerOf accepted)
@@ -53,4 +53,4 @@ set-up-back Values = refl
 set-up-back (Checked a) = by-reply (λ r. setUpOf r ≡ Checked (answerOf r)) refl (λ k i j. refl) a ∙ ap Checked (reply-back a)
 
 pub set-up-reply-injective : (a b : SetUpAnswer) → setUpReply a ≡ setUpReply b → a ≡ b
-set-up-reply-injective a b e = sym (set-up-back a) ∙ ap setUpOf e ∙ set-up-back b
+set-up-reply-injective = injective setUpReply setUpOf set-up-back

@@ -1,9 +1,9 @@
 -- A promise over document 01's numbers fixes the answer of making the view: two answers with one number and the same nodes are equal. Assumes nothing.
-use mathlib.Core.Path.{_≡_, refl, sym, ap, _∙_}
+use mathlib.Core.Path.{_≡_, refl, ap, _∙_}
 use mathlib.Core.Bool.{cond}
 use lib.Dec.{eqb}
 use Rattle.map_check.specs.Reply.{Reply, accepted, nodes, place, plain}
-use Rattle.map_check.proofs.Answers.{answerOf, reply-back, reply-form}
+use Rattle.map_check.proofs.Answers.{injective, answerOf, reply-back, reply-form}
 use Rattle.region_map.specs.Flatten.{flatReply}
 use Rattle.region_map.specs.declared.view.FlatAnswer.{FlatAnswer}
 use Rattle.region_map.specs.declared.view.FlatAnswer.the-variants.{Checked, TooMany, Record}
@@ -20,4 +20,4 @@ flat-back TooMany = refl
 flat-back Record = refl
 
 pub flat-reply-injective : (a b : FlatAnswer) → flatReply a ≡ flatReply b → a ≡ b
-flat-reply-injective a b e = sym (flat-back a) ∙ ap flatAnswerOf e ∙ flat-back b
+flat-reply-injective = injective flatReply flatAnswerOf flat-back

@@ -1,9 +1,9 @@
 -- The reader's promise fixes its answer: two answers with one number and the same place or nodes are equal. Assumes nothing.
-use mathlib.Core.Path.{_≡_, refl, sym, ap, _∙_}
+use mathlib.Core.Path.{_≡_, refl, ap, _∙_}
 use mathlib.Core.Bool.{cond}
 use lib.Dec.{eqb}
 use Rattle.map_check.specs.Reply.{Reply, accepted, nodes, place, plain}
-use Rattle.map_check.proofs.Answers.{answerOf, reply-back, reply-form}
+use Rattle.map_check.proofs.Answers.{injective, answerOf, reply-back, reply-form}
 use Rattle.sheet.specs.Answer.{sheetReply}
 use Rattle.sheet.specs.declared.answer.SheetAnswer.{SheetAnswer}
 use Rattle.sheet.specs.declared.answer.SheetAnswer.the-variants.{Short, Number, Count, Kind, Tail, Record, Checked}
@@ -25,4 +25,4 @@ back Record = refl
 back (Checked a) = reply-form (λ r. sheetAnswerOf r ≡ Checked (answerOf r)) refl (λ k i j. refl) a ∙ ap Checked (reply-back a)
 
 pub sheet-reply-injective : (a b : SheetAnswer) → sheetReply a ≡ sheetReply b → a ≡ b
-sheet-reply-injective a b e = sym (back a) ∙ ap sheetAnswerOf e ∙ back b
+sheet-reply-injective = injective sheetReply sheetAnswerOf back

@@ -8,9 +8,6 @@ pub mod MadeWords
 pub mod Plugged
 pub mod QueueLaws
 pub mod ReachedLaws
-pub mod RouteAllLaws
-pub mod RouteLaws
-pub mod RouteRefused
 pub mod RunLaws
 pub mod RunSteps
 pub mod StepLaws
@@ -18,6 +15,5 @@ pub mod TakeLaws
 pub mod TreeLaws
 pub mod Unmanaged
 pub mod ValueLaws
-pub mod ViewWords
 pub mod WayLaws
 pub mod Worked

@@ -6,16 +6,13 @@ use lib.Seq.{sets}
 use Prim.Native.Nat.{ℕ, _+_, _-_, _^_, _≤_, _<_, min}
 use lib.Dec.{eqb, leb, ltb}
 use lib.ListN.{length, take}
-use Rattle.map_records.specs.View.{entries}
 use Rattle.map_records.specs.declared.view.FlatView.{FlatView}
 use Rattle.map_records.specs.Words.{viewOf}
-use Rattle.device_words.specs.Table.{allBelow}
-use Rattle.device_words.specs.Device.{MemoryDevice, pluggedIn, deviceOk}
+use Rattle.device_words.specs.Device.{MemoryDevice, deviceOk}
 use Rattle.device_words.specs.Words.{deviceOf}
-use Rattle.guest_view.specs.Guest.{Guest, allReach, byteAt, addresses, leafAt, viewGuest, byView}
+use Rattle.guest_view.specs.Guest.{Guest, allReach, byteAt, addresses, viewGuest, byView}
 use Rattle.virtqueue.specs.Queue.{queueOk, ringEntry, usedEntry, usedIdx}
 use Rattle.virtqueue.specs.Chain.{Chain, Entry, out, here, endOf, isWritable, misplaced, reached, chainAt}
-use Rattle.virtqueue.specs.Route.{Routed, follows, routed}
 use Rattle.virtqueue.specs.Step.{Way, halted, quiet, along, Offer, stop, nothing, ready, idx, flags, entry, offers, notifies, chainOf, requestBytes, responsePlaces, offerChain, offered, steppedBy, Effect}
 use Rattle.virtqueue.specs.declared.chain.Gathered.{Gathered}
 use Rattle.virtqueue.specs.declared.chain.Descriptor.{Descriptor}
@@ -32,7 +29,7 @@ use Rattle.virtqueue.specs.declared.take.TakenOffer.{TakenOffer}
 use Rattle.virtqueue.specs.declared.take.TakenOffer.the-variants as offer
 use Rattle.guest_view.specs.Contracts.{Judged, Backed, InMemory, placeIn}
 
--- the guest through a view's words, with a device of a block size and a plug table; through the words of both
+-- the guest through a view's words, with a device of a block size and a plug table
 abbrev pub guestIn : List ℕ → ℕ → List ℕ → Guest
 guestIn view block plugged = viewGuest (viewOf view) block plugged
 
@@ -61,13 +58,6 @@ pub record Stepping (view device mem : List ℕ) (q : SplitQueue) : Type 0 where
   pub words : length device ≡ 37
   pub valid : deviceOk (deviceOf device) ≡ true
   pub queue : queueOk q ≡ true
-
--- ---- routing over a judged view: is an access whole, and what it is answered
-abbrev pub isWhole : List ℕ → ℕ → ℕ → Bool
-isWhole view a w = allBelow (λ i. follows (leafAt (entries (viewOf view)) a) i (leafAt (entries (viewOf view)) (a + i))) w
-
-abbrev pub routedIn : List ℕ → ℕ → List ℕ → ℕ → ℕ → Routed
-routedIn view block plugged = routed (leafAt (entries (viewOf view))) (pluggedIn block plugged)
 
 -- ---- the way of a step as the code goes it, by the enums of its private modules
 abbrev pub entryBy : Fetched → Entry

@@ -1,5 +1,3 @@
-pub mod Look
-pub mod Route
 pub mod Queue
 pub mod Chain
 pub mod Step
@@ -9,6 +7,5 @@ pub mod SecondHalf
 pub mod Unmanaged
 pub mod Calls
 pub mod Causes
-pub mod RouteCauses
 pub mod Contracts
 pub mod Worked

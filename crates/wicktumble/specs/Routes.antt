@@ -7,8 +7,8 @@ use lib.ListN.{length}
 use Rattle.map_records.specs.Words.{viewOf}
 use Rattle.region_map.specs.Flatten.{isView}
 use Rattle.device_words.specs.Words.{isDevice, deviceOf}
-use Rattle.virtqueue.specs.Route.{Routed, answerWords, routedWith, routedWithout, RoutedAll, allWith, allWithout}
-use Rattle.virtqueue.specs.Look.{lookedUp}
+use Rattle.routing.specs.Route.{Routed, answerWords, routedWith, routedWithout, RoutedAll, allWith, allWithout}
+use Rattle.routing.specs.Look.{lookedUp}
 use Rattle.wicktumble.specs.Result.{Told, untold, isResult}
 use Rattle.wicktumble.specs.Maps.{ledTo}
 

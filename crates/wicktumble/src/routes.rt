@@ -2,18 +2,18 @@
 ghost use mathlib.Core.Path.{_≡_};
 ghost use Rattle.wicktumble.specs.Result.{Tells};
 ghost use Rattle.wicktumble.specs.Contracts.{toldBy};
-ghost use Rattle.virtqueue.specs.Look.{lookedBy};
-ghost use Rattle.virtqueue.specs.Route.{routedBy, RoutesAll};
+ghost use Rattle.routing.specs.Look.{lookedBy};
+ghost use Rattle.routing.specs.Route.{routedBy, RoutesAll};
 ghost use Rattle.wicktumble.specs.Maps.{ledTo};
 ghost use Rattle.wicktumble.specs.Routes.{routeTold, routeBy, routeCall, routeAllCall, lookUpCall};
 use crate::result::Said;
 use crate::result::say;
 use crate::result::tell;
 use map_records::map::GuestAddress;
-use virtqueue::route;
-use virtqueue::route::RouteAnswer;
-use virtqueue::view::LookUp;
-use virtqueue::view::look_up;
+use routing::route;
+use routing::route::RouteAnswer;
+use routing::view::LookUp;
+use routing::view::look_up;
 
 fn say_route(answer: RouteAnswer) -> Said
     ensures { λ r. ⌜ toldBy r ≡ routeTold (routedBy answer) ⌝ }

@@ -3,7 +3,7 @@ use borrow.Author.Needs.{needs}
 use borrow.Author.Tests.{eq-eqb, ne-eqb}
 use lib.ListN.{length}
 use mathlib.Core.Path.{ap, _∙_}
-use Rattle.virtqueue.specs.Route.{RoutedAll}
+use Rattle.routing.specs.Route.{RoutedAll}
 use Rattle.wicktumble.specs.Routes.{routeAllCall}
 use Rattle.wicktumble.proofs.CallLaws.{taken, refused}
 use Rattle.wicktumble.proofs.routes.wt_route_all.Statement.{statement}

@@ -1,0 +1,5 @@
+pub mod Answers
+mod RouteAllLaws
+mod RouteLaws
+pub mod RouteRefused
+mod ViewWords

@@ -1,0 +1,4 @@
+pub mod Look
+pub mod Route
+pub mod RouteCauses
+pub mod Contracts
