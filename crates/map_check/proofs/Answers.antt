@@ -1,7 +1,7 @@
 -- A promise over document 01's numbers fixes the check's answer: two answers with one number and the same nodes are equal. Assumes nothing.
 use mathlib.Core.Path.{_≡_, refl, sym, ap, _∙_}
 use mathlib.Core.Bool.{cond}
-use Prim.Native.Nat.{ℕ}
+use Prim.Native.Nat.{ℕ, suc}
 use lib.Dec.{eqb}
 use Rattle.map_check.specs.Reply.{Reply, accepted, nodes, place, plain}
 use Rattle.map_check.specs.Check.{reply}
@@ -39,14 +39,14 @@ reply-back (answer.Overlap i j) = refl
 pub reply-injective : (a b : MapAnswer) → reply a ≡ reply b → a ≡ b
 reply-injective = injective reply answerOf reply-back
 
--- the check accepts, or gives a number with two nodes: what holds of both holds of its answer
-pub reply-form : (P : Reply → Type 0) → P accepted → ((k i j : ℕ) → P (nodes k i j)) → (a : MapAnswer) → P (reply a)
+-- the check accepts, or gives a number above 0 with two nodes: what holds of both holds of its answer
+pub reply-form : (P : Reply → Type 0) → P accepted → ((k i j : ℕ) → P (nodes (suc k) i j)) → (a : MapAnswer) → P (reply a)
 reply-form P x f answer.Accepted = x
-reply-form P x f answer.Count = f 3 0 0
-reply-form P x f (answer.Kind n) = f 4 n n
-reply-form P x f (answer.Field n) = f 6 n n
-reply-form P x f (answer.Link n) = f 7 n n
-reply-form P x f (answer.Memory i j) = f 8 i j
-reply-form P x f (answer.Managed i j) = f 9 i j
-reply-form P x f (answer.Port i j) = f 10 i j
-reply-form P x f (answer.Overlap i j) = f 11 i j
+reply-form P x f answer.Count = f 2 0 0
+reply-form P x f (answer.Kind n) = f 3 n n
+reply-form P x f (answer.Field n) = f 5 n n
+reply-form P x f (answer.Link n) = f 6 n n
+reply-form P x f (answer.Memory i j) = f 7 i j
+reply-form P x f (answer.Managed i j) = f 8 i j
+reply-form P x f (answer.Port i j) = f 9 i j
+reply-form P x f (answer.Overlap i j) = f 10 i j

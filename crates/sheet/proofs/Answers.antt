@@ -1,10 +1,14 @@
--- The reader's promise fixes its answer: two answers with one number and the same place or nodes are equal. Assumes nothing.
+-- The promises of the readers fix their answers: two answers that stand for the same one are equal. Assumes nothing.
 use mathlib.Core.Path.{_≡_, refl, ap, _∙_}
 use mathlib.Core.Bool.{cond}
 use lib.Dec.{eqb}
 use Rattle.map_check.specs.Reply.{Reply, accepted, nodes, place, plain}
 use Rattle.map_check.proofs.Answers.{injective, answerOf, reply-back, reply-form}
-use Rattle.sheet.specs.Answer.{sheetReply}
+use Prim.Native.Nat.{ℕ}
+use Rattle.sheet.specs.Answer.{sheetReply, Read, got, refused}
+use Rattle.sheet.specs.Number.{numberOf}
+use Rattle.sheet.specs.declared.number.NumberRead.{NumberRead}
+use Rattle.sheet.specs.declared.number.NumberRead.the-variants.{Value, Refused}
 use Rattle.sheet.specs.declared.answer.SheetAnswer.{SheetAnswer}
 use Rattle.sheet.specs.declared.answer.SheetAnswer.the-variants.{Short, Number, Count, Kind, Tail, Record, Checked}
 
@@ -26,3 +30,15 @@ back (Checked a) = reply-form (λ r. sheetAnswerOf r ≡ Checked (answerOf r)) r
 
 pub sheet-reply-injective : (a b : SheetAnswer) → sheetReply a ≡ sheetReply b → a ≡ b
 sheet-reply-injective = injective sheetReply sheetAnswerOf back
+
+numberReadOf : Read ℕ → NumberRead
+numberReadOf (got v at) = Value v (record { at = at })
+numberReadOf (refused r) = Refused (sheetAnswerOf r)
+
+number-back : (a : NumberRead) → numberReadOf (numberOf a) ≡ a
+unfolding numberReadOf
+number-back (Value v c) = refl
+number-back (Refused a) = ap Refused (back a)
+
+pub number-read-injective : (a b : NumberRead) → numberOf a ≡ numberOf b → a ≡ b
+number-read-injective = injective numberOf numberReadOf number-back

@@ -1,15 +1,16 @@
 -- A promise fixes the code's answer: two answers of the code that stand for one of document 01's are equal. Assumes nothing.
-use mathlib.Core.Path.{_≡_, refl}
+use mathlib.Core.Path.{_≡_, refl, ap}
 use mathlib.Core.Bool.{cond}
 use lib.Dec.{eqb}
 use Rattle.map_check.specs.Reply.{Reply, numberOf}
 use Rattle.map_check.proofs.Answers.{injective}
-use Rattle.virtqueue.specs.Queue.{queueReply}
+use Rattle.virtqueue.specs.Queue.{queueReply, Given, givenBy}
 use Rattle.virtqueue.specs.Step as step
 use Rattle.virtqueue.specs.Does.{answerOf}
 use Rattle.virtqueue.specs.Run as run
 use Rattle.virtqueue.specs.declared.queue.QueueAnswer.{QueueAnswer}
 use Rattle.virtqueue.specs.declared.queue.QueueAnswer.the-variants as queue
+use Rattle.virtqueue.specs.declared.queue.QueueGiven.{QueueGiven}
 use Rattle.virtqueue.specs.declared.run.RunEnd.{RunEnd}
 use Rattle.virtqueue.specs.declared.run.RunEnd.the-variants as end
 use Rattle.virtqueue.specs.declared.step.StepOutcome.{StepOutcome}
@@ -54,3 +55,13 @@ queue-back queue.Record = refl
 
 pub queue-reply-injective : (a b : QueueAnswer) → queueReply a ≡ queueReply b → a ≡ b
 queue-reply-injective = injective queueReply queueAnswerOf queue-back
+
+queueGivenOf : Given → QueueGiven
+queueGivenOf g = record { answer = queueAnswerOf (g .reply); queue = g .queue }
+
+given-back : (g : QueueGiven) → queueGivenOf (givenBy g) ≡ g
+unfolding queueGivenOf
+given-back g = ap (λ a. record { answer = a; queue = g .queue }) (queue-back (g .answer))
+
+pub queue-given-injective : (a b : QueueGiven) → givenBy a ≡ givenBy b → a ≡ b
+queue-given-injective = injective givenBy queueGivenOf given-back
