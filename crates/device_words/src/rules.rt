@@ -17,10 +17,8 @@ use crate::words::REQUESTED_SIZE;
 use crate::words::USABLE_SIZE;
 use crate::words::WORDS;
 use map_records::map::GuestAddress;
+use map_records::numbers::LIMIT;
 use map_records::numbers::sum_within;
-
-// The largest end of a region, 2^48.
-const LIMIT: u64 = 281474976710656;
 
 // Is the block size a power of two from 4,096 to 2^30?
 fn block_ok(block: u64) -> bool

@@ -11,13 +11,11 @@ use crate::place::offset_in;
 use map_records::map::MANAGED;
 use map_records::map::MMIO;
 use map_records::map::RAM;
+use map_records::numbers::LIMIT;
 use map_records::numbers::sum_within;
 use map_records::view::FlatRange;
 use map_records::words::count_of;
 use map_records::words::range_at;
-
-// Addresses and offsets end here: 2^48.
-const LIMIT: u64 = 281474976710656;
 
 // The kind of a range, whose last offset is `there`, and where its bytes lie.
 fn backing_ok(range: FlatRange, there: u64, memory: u64, region: u64) -> bool

@@ -1,4 +1,4 @@
--- What the functions inside the crate promise each other. No promise of an entry point cites these. Assumes nothing: these are definitions.
+-- What the functions inside the crate promise each other, and what inner functions above it rely on of a map's words (`Counted`, `Tree`). No promise of an entry point cites these. Assumes nothing: these are definitions.
 use mathlib.Core.Path.{_≡_}
 use mathlib.Core.Bool.{Bool}
 use mathlib.Core.List.{List}

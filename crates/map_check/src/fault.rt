@@ -12,12 +12,10 @@ use map_records::map::MANAGED;
 use map_records::map::RAM;
 use map_records::map::Region;
 use map_records::map::has;
+use map_records::numbers::LIMIT;
 use map_records::numbers::sum_within;
 use map_records::words::region_at;
 use map_records::words::region_count;
-
-// The largest offset and size, 2^48.
-const LIMIT: u64 = 281474976710656;
 
 // The rules that are searched for over all regions: 4, 6, 7, and 8's ends past the memory.
 pub enum NodeRule {

@@ -4,6 +4,7 @@ ghost use Prim.Native.Nat.{_<_};
 ghost use Rattle.map_check.specs.Reply.{numberOf};
 ghost use Rattle.virtqueue.specs.Queue.{sizeOk, areaOk, areasOk, stopOk, queueOk, noQueue, made, wasReset, queueReply, givenBy};
 use map_records::map::GuestAddress;
+use map_records::numbers::LIMIT;
 use map_records::numbers::sum_within;
 
 // The queue's size and areas, the two free-running indices, and the stop: 0 for none, or document 01's
@@ -30,9 +31,6 @@ pub struct QueueGiven {
     pub answer: QueueAnswer,
     pub queue: SplitQueue,
 }
-
-// Addresses end here: 2^48.
-const LIMIT: u64 = 281474976710656;
 
 // Is the size a power of two from 1 to 256?
 fn size_ok(n: u64) -> bool
