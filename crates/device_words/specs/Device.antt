@@ -17,7 +17,7 @@ pub record MemoryDevice : Type 0 where
   pub plugged : List ℕ
   pub pinned : List ℕ
 
--- 'the block is pinned': all that asks a pin asks it here
+-- the block is pinned: every definition that speaks of a pin goes through this one
 abbrev pub pinnedIn : List ℕ → ℕ → Bool
 pinnedIn pins b = bitAt pins b
 

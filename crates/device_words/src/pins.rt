@@ -1,4 +1,4 @@
-// The pins. What asks a pin or changes one does it here.
+// The pins of a device: asked for a run of blocks, set or cleared for one, and held against the plug table.
 ghost use mathlib.Core.Path.{_≡_};
 ghost use mathlib.Core.Bool.{true};
 ghost use Prim.Native.Nat.{_+_, _≤_, _<_};

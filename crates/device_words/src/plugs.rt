@@ -1,4 +1,4 @@
-// The plug table of a device. What asks a run of its blocks or changes one does it here.
+// The plug table of a device: what a request asks of a run of its blocks, or changes.
 ghost use mathlib.Core.Path.{_≡_};
 ghost use Prim.Native.Nat.{_+_, _/_, _≤_, _<_};
 ghost use lib.Dec.{eqb};

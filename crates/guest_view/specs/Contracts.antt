@@ -1,4 +1,4 @@
--- What the functions inside the crate promise each other. Assumes nothing: these are definitions.
+-- What the functions inside the crate, and inner functions over it, promise each other. Assumes nothing: these are definitions.
 use mathlib.Core.Path.{_≡_}
 use mathlib.Core.Bool.{Bool, true, false, _||_}
 use mathlib.Core.List.{List, map}

@@ -1,4 +1,4 @@
--- 27 for a given flat view, rule by rule, and what the list gives. Assumes nothing: these are definitions.
+-- 27 for a given flat view, rule by rule. Assumes nothing: these are definitions.
 use mathlib.Core.Bool.{Bool, _&&_, _||_, not}
 use Prim.Native.Nat.{ℕ, _+_}
 use lib.Dec.{eqb, leb, ltb}

@@ -6,7 +6,7 @@ use Prim.Native.Nat.{ℕ, _+_, _≤_, _<_}
 use native.Mathlib.Numerals.{add-one}
 use native.Mathlib.Omega.{arith}
 use lib.Dec.{eqb, ltb}
-use lib.ListN.{length, take, drop, getD}
+use lib.ListN.{length, take}
 use lib.Seq.{take-suc}
 use borrow.Author.Tests.{eq-eqb, ltb-false}
 use Rattle.map_records.specs.View.{noRange, rangeOf, entries}
@@ -14,14 +14,14 @@ use Rattle.map_records.specs.Words.{viewOf, viewWords}
 use Rattle.map_records.specs.declared.view.FlatRange.{FlatRange}
 use Rattle.map_records.specs.declared.view.FlatView.{FlatView}
 use Rattle.map_records.specs.declared.map.RegionMap.{RegionMap}
-use Rattle.map_records.proofs.WordLaws.{ranges-grouped, view-back}
+use Rattle.map_records.proofs.WordLaws.{view-back, view-words-injective}
 use Rattle.map_check.specs.Reply.{Reply, accepted, nodes, place, plain, passes, numberOf, ifAccepted}
 use Rattle.map_check.specs.Check.{judged}
 use Rattle.region_map.specs.Flatten.{flatReply, flatList, viewHolding, refusal, listed, Outcome, flattened, Made, laidInto, flattenedInto}
 use Rattle.region_map.specs.declared.view.FlatAnswer.{FlatAnswer}
 use Rattle.region_map.specs.declared.view.FlatAnswer.the-variants.{Checked, TooMany, Record}
-use Rattle.map_records.proofs.GroupLaws.{puts-injective}
-use Rattle.sheet.proofs.ReadLaws.{map-zero, Said, said}
+use Rattle.sheet.proofs.ReadLaws.{Said, said}
+use Rattle.map_check.proofs.Answers.{map-zero}
 use Rattle.listing.specs.Text.{refusalText, Puts, Fills}
 use Rattle.listing.specs.Listing.{rangeText, rangesText, viewText}
 use Rattle.listing.proofs.TextLaws.{puts-then, fills-refused, fills-passed}
@@ -49,13 +49,6 @@ flat-zero : (a : FlatAnswer) → eqb (numberOf (flatReply a)) 0 ≡ passes (flat
 flat-zero (Checked a) = map-zero a
 flat-zero TooMany = refl
 flat-zero Record = refl
-
-view-words-injective : (u v : FlatView) → viewWords u ≡ viewWords v → u ≡ v
-unfolding viewWords
-view-words-injective u v e =
-    let count : u .count ≡ v .count = ap (λ (l : List ℕ). getD l 0 0) e in
-    let ranges = puts-injective ranges-grouped (omega arith) (u .ranges) (v .ranges) (ap (drop 1) e) in
-    (λ i. record { count = count i; ranges = ranges i })
 
 pub record MadeAs (o : Outcome) (n : ℕ) (words : List ℕ) : Type 0 where
   pub said : Said (o .reply) n

@@ -2,8 +2,10 @@
 use mathlib.Core.Path.{_≡_, refl, sym, ap, _∙_}
 use mathlib.Core.Bool.{cond}
 use Prim.Native.Nat.{ℕ, suc}
+use native.Mathlib.Omega.{arith}
 use lib.Dec.{eqb}
-use Rattle.map_check.specs.Reply.{Reply, accepted, nodes, place, plain}
+use borrow.Author.Tests.{ne-eqb}
+use Rattle.map_check.specs.Reply.{Reply, accepted, nodes, place, plain, passes, numberOf}
 use Rattle.map_check.specs.Check.{reply}
 use Rattle.map_check.specs.declared.check.MapAnswer.{MapAnswer}
 use Rattle.map_check.specs.declared.check.MapAnswer.the-variants as answer
@@ -50,3 +52,7 @@ reply-form P x f (answer.Memory i j) = f 7 i j
 reply-form P x f (answer.Managed i j) = f 8 i j
 reply-form P x f (answer.Port i j) = f 9 i j
 reply-form P x f (answer.Overlap i j) = f 10 i j
+
+-- a number is 0 where nothing is refused, and only there
+pub map-zero : (a : MapAnswer) → eqb (numberOf (reply a)) 0 ≡ passes (reply a)
+map-zero = reply-form (λ r. eqb (numberOf r) 0 ≡ passes r) refl (λ k i j. ne-eqb (suc k) 0 (λ (e : suc k ≡ 0). omega arith))

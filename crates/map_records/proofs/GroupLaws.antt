@@ -99,7 +99,7 @@ module _ {A : Type 0} {read : List ℕ → ℕ → A} {put : A → List ℕ} {k 
       back : (z : A) → read (put z) 0 ≡ z
       back z = s .back (put z) 0 z (λ j h. ap (λ (i : ℕ). getD (put z) i 0) (zero-add j))
 
-  pub puts-injective : 0 < k → (xs ys : List A) → eachWords put xs ≡ eachWords put ys → xs ≡ ys
+  puts-injective : 0 < k → (xs ys : List A) → eachWords put xs ≡ eachWords put ys → xs ≡ ys
   unfolding eachWords
   puts-injective some [] [] e = refl
   puts-injective some [] (y ∷ ys) e = absurd (omega (arith, ap length e, length-append (put y) (eachWords put ys), s .size y))
@@ -108,3 +108,7 @@ module _ {A : Type 0} {read : List ℕ → ℕ → A} {put : A → List ℕ} {k 
       let front = sym (take-at (put x) (eachWords put xs) k (s .size x)) ∙ ap (take k) e ∙ take-at (put y) (eachWords put ys) k (s .size y) in
       let rest = sym (drop-at (put x) (eachWords put xs) k (s .size x)) ∙ ap (drop k) e ∙ drop-at (put y) (eachWords put ys) k (s .size y) in
       (λ i. put-injective x y front i ∷ puts-injective some xs ys rest i)
+
+  -- a word in front of them, a count for instance, is fixed too
+  pub counted-injective : 0 < k → (c d : ℕ) (xs ys : List A) → (c ∷ eachWords put xs) ≡ (d ∷ eachWords put ys) → (c ≡ d) × (xs ≡ ys)
+  counted-injective some c d xs ys e = (ap (λ (l : List ℕ). getD l 0 0) e, puts-injective some xs ys (ap (drop 1) e))

@@ -17,7 +17,7 @@ use Rattle.map_records.specs.declared.view.FlatRange.{FlatRange}
 use Rattle.map_records.specs.declared.view.FlatView.{FlatView}
 use Rattle.map_records.proofs.StoreLaws.{sets-below}
 use Rattle.map_records.proofs.Order.{eq-or-not}
-use Rattle.map_records.proofs.GroupLaws.{Grouped, groups-length, group-at, stored-group, reads-same, reads-blank, words-back}
+use Rattle.map_records.proofs.GroupLaws.{Grouped, groups-length, group-at, puts-length, stored-group, reads-same, reads-blank, words-back, counted-injective}
 
 -- ---- the words read one by one
 abbrev listed : List ℕ → ℕ → ℕ → ℕ → List ℕ
@@ -172,3 +172,29 @@ pub empty-map-words : mapOf (replicate 289 0) ≡ emptyMap
 empty-map-words =
     map-words (replicate 289 0) (length-replicate {A = ℕ} 289 0)
     ∙ (λ j. record { count = zero-words 289 0 j; regions = reads-blank regions-grouped (replicate 289 0) 1 32 noRegion blank-region (zero-words 289) j })
+
+-- ---- words fix the map or view that they are of
+pub map-words-injective : (m n : RegionMap) → mapWords m ≡ mapWords n → m ≡ n
+unfolding mapWords
+map-words-injective m n e =
+    let same = counted-injective regions-grouped (omega arith) _ _ _ _ e in
+    λ i. record { count = same .0 i; regions = same .1 i }
+
+pub view-words-injective : (u v : FlatView) → viewWords u ≡ viewWords v → u ≡ v
+unfolding viewWords
+view-words-injective u v e =
+    let same = counted-injective ranges-grouped (omega arith) _ _ _ _ e in
+    λ i. record { count = same .0 i; ranges = same .1 i }
+
+-- the words of a map of 32 entries, and of a view of 256, stand for it
+pub words-map : (m : RegionMap) → length (m .regions) ≡ 32 → mapOf (mapWords m) ≡ m
+unfolding mapWords
+words-map m h =
+    let size : length (mapWords m) ≡ 289 = omega (arith, puts-length regions-grouped (m .regions)) in
+    map-words-injective (mapOf (mapWords m)) m (map-back (mapWords m) size)
+
+pub words-view : (v : FlatView) → length (v .ranges) ≡ 256 → viewOf (viewWords v) ≡ v
+unfolding viewWords
+words-view v h =
+    let size : length (viewWords v) ≡ 1537 = omega (arith, puts-length ranges-grouped (v .ranges)) in
+    view-words-injective (viewOf (viewWords v)) v (view-back (viewWords v) size)

@@ -31,7 +31,7 @@ noRegion = record { kind = 0; parent = 0; offset = 0; size = 0; priority = 0; «
 abbrev pub region : RegionMap → ℕ → Region
 region m n = getD (m .regions) n noRegion
 
--- the map of no regions, which words of another number stand for
+-- the map of no regions
 abbrev pub emptyMap : RegionMap
 emptyMap = record { count = 0; regions = replicate 32 noRegion }
 

@@ -15,7 +15,7 @@ unfoldable pub carriedInto : MemoryDevice → List ℕ → List ℕ → Outcome
 carriedInto d s bytes =
     cond (eqb (length bytes) 10 && deviceOk d) (carriedOut d (requestOf s)) (record { reply = plain 27; response = bytes; device = d })
 
--- by value: no response on a refusal, and the state as it was
+-- by value: zeros for the response on a refusal, and the state as it was
 abbrev pub carried : MemoryDevice → List ℕ → Outcome
 carried d s = carriedInto d s (replicate 10 0)
 

@@ -59,13 +59,13 @@ module _ (backing : ℕ → Backing) (f : ℕ → Resolved) where
   flat-under zero = tt
   flat-under (suc n) = under-extend backing (flat backing f n) n (f n) (flat-under n)
 
-  -- (b)
+  -- it is a list of longest runs
   pub flat-longest : (n : ℕ) → Longest backing (flat backing f n)
   unfolding flat
   flat-longest zero = tt
   flat-longest (suc n) = longest-extend backing (flat backing f n) n (f n) (flat-longest n) (flat-under n)
 
-  -- (a)
+  -- it gives f's answers below n, and nothing beyond
   pub flat-beyond : (n a : ℕ) → n ≤ a → lookup (flat backing f n) a ≡ Nothing
   unfolding flat lookup
   flat-beyond zero a h = refl
@@ -82,7 +82,7 @@ module _ (backing : ℕ → Backing) (f : ℕ → Resolved) where
       go (yes q) ih = rw q (extend-here backing (flat backing f n) n (f n) (flat-longest n) (flat-under n) (flat-beyond n n (omega arith)))
       go (no q) ih = extend-other backing (flat backing f n) n (f n) a (flat-longest n) (flat-under n) q ∙ ih (omega arith)
 
--- (d) d + 1 addresses from `at` that answer as one run are one entry put behind the list
+-- d + 1 addresses from `at` that answer as one run are one entry put behind the list
 extend-more : (backing : ℕ → Backing) (l : List FlatRange) (at d : ℕ) (b : Resolved)
     → extend backing (extend backing l at (at + d) b) (suc (at + d)) (suc (at + d)) (shift (suc d) b) ≡ extend backing l at (suc (at + d)) b
 unfolding extend

@@ -133,7 +133,7 @@ module _ (backing : ℕ → Backing) where
       go (yes q) = tail-low x xs a c q ∙ sym (tail-low y ys a d (omega (arith, l)))
       go (no q) = sym (later x xs a (omega arith)) ∙ h a ∙ later y ys a (omega (arith, l))
 
-  -- (c)
+  -- two lists of longest runs that give the same answers are equal
   pub unique : (l m : List FlatRange) → Longest backing l → Longest backing m → ((a : ℕ) → lookup l a ≡ lookup m a) → l ≡ m
   unfolding lookup
   unique [] [] c d h = refl

@@ -118,7 +118,7 @@ still-full backing f n m p h e g =
       list = λ z. let y : _≡_ {A = ℕ} 0 1 = cc in absurd (omega arith);
     }
 
--- a turn of the sweep: a stretch of s addresses that answers as one run, put behind the list of those below it
+-- a stretch of s addresses that answers as one run, put behind the list of those below it: a piece, or what lies free before it
 pub turned : (backing : ℕ → Backing) (f : ℕ → Resolved) (at s : ℕ) (l : List FlatRange) (b : Resolved) (p : Pushed)
     → l ≡ flat backing f at → b ≡ f at → 0 < s → ((i : ℕ) → i < s → f (at + i) ≡ shift i (f at))
     → Grew (extend backing l at (at + (s - 1)) b) p → Grew (flat backing f (at + s)) p

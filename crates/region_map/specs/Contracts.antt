@@ -30,7 +30,7 @@ pub record NextChild (m : RegionMap) (n b r : ℕ) : Type 0 where
   pub found : (k : ℕ) → r ≡ k + 1 → ranked m n k ≡ true
   pub above : (k : ℕ) → r ≤ k → k < b → ranked m n k ≡ false
 
--- the same answer, d bytes on
+-- the same answer, d bytes on; what the laws of ranges call a run
 abbrev pub shift : ℕ → Resolved → Resolved
 shift d Nothing = Nothing
 shift d (At n o) = At n (record { 0 = o .0 + d })

@@ -1,4 +1,4 @@
--- Rule 27 for runs, as facts of a view over a map and a guest memory of so many bytes: what the readers of a view rely on. Assumes nothing: these are definitions.
+-- Rule 27 for runs, as facts of a view over a map and a guest memory of so many bytes: what the proof that a made view passes 27 takes from the tree. Assumes nothing: these are definitions.
 use mathlib.Core.Path.{_≡_}
 use Prim.Native.Nat.{ℕ, _+_, _^_, _≤_, _<_}
 use Rattle.map_records.specs.Map.{ram, mmio, managed, region}

@@ -46,7 +46,7 @@ unfoldable pub tried : RegionMap → (ℕ → ℕ → Resolved) → ℕ → ℕ 
 tried m under n zero a = own m n a
 tried m under n (suc r) a = orElse (answer m under n r a) (tried m under n r a)
 
--- region n at a, where `under` walks the regions below n: 'address not below the size: nothing; alias: walk at the target with address + alias offset; otherwise take the children'. Every rank is below 256 * 32.
+-- region n at a, where `under` walks the regions below n: 'address not below the size: nothing; alias: walk at the target with address + alias offset; otherwise take the children'. With the priority fields that 6 lets pass every rank is below 256 * 32.
 unfoldable pub visit : RegionMap → (ℕ → ℕ → Resolved) → ℕ → ℕ → Resolved
 visit m under n a =
     cond (leb (region m n .size) a) Nothing

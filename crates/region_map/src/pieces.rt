@@ -159,7 +159,7 @@ struct Skipped {
 }
 
 // Over piece i and the pieces that follow it without a gap, as far as `end`. Half of the work on the worst maps
-// known is done here, so the loop stands by itself and reads two words a turn.
+// known is done here, so the loop stands by itself and does nothing else.
 fn skip(table: &[u64], i: usize, end: u64) -> Skipped
     requires { ⌜ Pieces (now table) × (i < countOf (now table)) ⌝ }
     ensures { λ r. ⌜ Run (now (table .entry)) i (r .address) (r .at) ⌝ }

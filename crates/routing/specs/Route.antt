@@ -1,4 +1,4 @@
--- Routing of one guest access: 23 to 26. Assumes nothing: these are definitions.
+-- Routing of guest accesses, one and many: 23 to 26, and 27 first. Assumes nothing: these are definitions.
 use mathlib.Core.Bool.{Bool, true, false, cond, _&&_, _||_, not}
 use mathlib.Core.List.{List, [], _∷_, _++_}
 use mathlib.Core.Path.{_≡_}

@@ -12,7 +12,7 @@ routeRefusedBy k (refused n) = eqb n k
 routeRefusedBy k (toMemory p) = false
 routeRefusedBy k (toPort p o) = false
 
--- Routing.
+-- of an access of w bytes at a, by what the view answers at an address and which blocks are plugged
 module _ (answers : ℕ → Leaf) (plugged : ℕ → Bool) (a w : ℕ) where
   abbrev pub cause23 : Bool
   cause23 = not (widthOk w)

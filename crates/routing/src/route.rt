@@ -1,4 +1,4 @@
-// Routing of one guest access.
+// Routing of guest accesses, one and many.
 ghost use mathlib.Core.Path.{_≡_};
 ghost use mathlib.Core.Bool.{true};
 ghost use mathlib.Core.List.{[], _∷_};

@@ -6,7 +6,7 @@ use Rattle.map_check.specs.Reply.{Reply, accepted, nodes, place, plain}
 use Rattle.map_check.proofs.Answers.{injective, answerOf, reply-back, reply-form}
 use Prim.Native.Nat.{ℕ}
 use Rattle.sheet.specs.Answer.{sheetReply, Read, got, refused}
-use Rattle.sheet.specs.Number.{numberOf}
+use Rattle.sheet.specs.Number.{readBy}
 use Rattle.sheet.specs.declared.number.NumberRead.{NumberRead}
 use Rattle.sheet.specs.declared.number.NumberRead.the-variants.{Value, Refused}
 use Rattle.sheet.specs.declared.answer.SheetAnswer.{SheetAnswer}
@@ -35,10 +35,10 @@ numberReadOf : Read ℕ → NumberRead
 numberReadOf (got v at) = Value v (record { at = at })
 numberReadOf (refused r) = Refused (sheetAnswerOf r)
 
-number-back : (a : NumberRead) → numberReadOf (numberOf a) ≡ a
+number-back : (a : NumberRead) → numberReadOf (readBy a) ≡ a
 unfolding numberReadOf
 number-back (Value v c) = refl
 number-back (Refused a) = ap Refused (back a)
 
-pub number-read-injective : (a b : NumberRead) → numberOf a ≡ numberOf b → a ≡ b
-number-read-injective = injective numberOf numberReadOf number-back
+pub number-read-injective : (a b : NumberRead) → readBy a ≡ readBy b → a ≡ b
+number-read-injective = injective readBy numberReadOf number-back

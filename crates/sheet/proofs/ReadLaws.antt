@@ -1,40 +1,28 @@
--- What a caller of the reader knows of the sheet's map: a number is 0 where nothing is refused and only there, the lent words stand for the map, and the map of an accepted sheet is accepted. Assumes nothing.
-use mathlib.Core.Path.{_≡_, refl, sym, ap, _∙_}
+-- What a caller of the reader knows of the sheet's map: a number is 0 where nothing is refused and only there, the map of an accepted sheet is accepted, and the lent words stand for it. Assumes nothing.
+use mathlib.Core.Path.{_≡_, refl, sym, ap, _∙_, subst}
 use mathlib.Core.Bool.{Bool, true, false, cond}
 use mathlib.Core.List.{List}
-use Prim.Native.Nat.{ℕ}
-use native.Mathlib.Omega.{arith}
+use Prim.Native.Nat.{ℕ, zero, suc}
 use lib.Dec.{eqb, ltb}
-use lib.ListN.{length, drop, getD}
+use lib.ListN.{length, length-replicate, length-set}
 use borrow.Author.Tests.{eq-eqb, ne-eqb}
+use Rattle.map_records.specs.Map.{noRegion}
 use Rattle.map_records.specs.Words.{mapOf, mapWords}
 use Rattle.map_records.specs.declared.map.RegionMap.{RegionMap}
-use Rattle.map_records.proofs.GroupLaws.{puts-injective}
-use Rattle.map_records.proofs.WordLaws.{regions-grouped, map-back}
+use Rattle.map_records.proofs.WordLaws.{words-map}
 use Rattle.map_check.specs.Reply.{Reply, accepted, nodes, place, plain, passes, numberOf}
-use Rattle.map_check.specs.Check.{reply, countFault, judged, Accepted}
-use Rattle.map_check.specs.declared.check.MapAnswer.{MapAnswer}
-use Rattle.map_check.specs.declared.check.MapAnswer.the-variants as map
+use Rattle.map_check.specs.Check.{countFault, judged, Accepted}
+use Rattle.map_check.proofs.Answers.{map-zero}
 use Rattle.map_check.proofs.Bools.{never}
 use Rattle.sheet.specs.Answer.{Read, got, refused, next, sheetReply}
 use Rattle.sheet.specs.Number.{number}
-use Rattle.sheet.specs.Sheet.{blankMap, regionsFrom, mapAt, Outcome, refusal, checked, finished, readSheet, Made, laidInto, readInto}
+use Rattle.sheet.specs.Region.{regionAt}
+use Rattle.sheet.specs.Sheet.{blankMap, withRegion, regionsFrom, mapAt, Outcome, refusal, checked, finished, readSheet, Made, laidInto, isMap, readInto}
 use Rattle.sheet.specs.declared.answer.SheetAnswer.{SheetAnswer}
 use Rattle.sheet.specs.declared.answer.SheetAnswer.the-variants.{Short, Number, Count, Kind, Tail, Record, Checked}
 use Rattle.sheet.proofs.RefusalLaws.{number-not, regions-not}
 
 -- ---- a number is 0 where nothing is refused, and only there
-pub map-zero : (a : MapAnswer) → eqb (numberOf (reply a)) 0 ≡ passes (reply a)
-map-zero map.Accepted = refl
-map-zero map.Count = refl
-map-zero (map.Kind n) = refl
-map-zero (map.Field n) = refl
-map-zero (map.Link n) = refl
-map-zero (map.Memory i j) = refl
-map-zero (map.Managed i j) = refl
-map-zero (map.Port i j) = refl
-map-zero (map.Overlap i j) = refl
-
 sheet-zero : (a : SheetAnswer) → eqb (numberOf (sheetReply a)) 0 ≡ passes (sheetReply a)
 sheet-zero (Short p) = refl
 sheet-zero (Number p) = refl
@@ -51,20 +39,12 @@ pub record Said (r : Reply) (n : ℕ) : Type 0 where
   pub passed : n ≡ 0 → passes r ≡ true
 
 pub said : {r o : Reply} {n : ℕ} → eqb (numberOf r) 0 ≡ passes r → r ≡ o → n ≡ numberOf r → Said o n
-said zero e k =
+said same e k =
     record {
       number = k ∙ ap numberOf e;
-      refused = λ h. ap passes (sym e) ∙ sym zero ∙ ne-eqb _ 0 (λ z. h (k ∙ z));
-      passed = λ z. ap passes (sym e) ∙ sym zero ∙ eq-eqb _ 0 (sym k ∙ z);
+      refused = λ h. ap passes (sym e) ∙ sym same ∙ ne-eqb _ 0 (λ z. h (k ∙ z));
+      passed = λ z. ap passes (sym e) ∙ sym same ∙ eq-eqb _ 0 (sym k ∙ z);
     }
-
--- ---- words fix the map that they stand for
-map-words-injective : (m n : RegionMap) → mapWords m ≡ mapWords n → m ≡ n
-unfolding mapWords
-map-words-injective m n e =
-    let count : m .count ≡ n .count = ap (λ (l : List ℕ). getD l 0 0) e in
-    let regions = puts-injective regions-grouped (omega arith) (m .regions) (n .regions) (ap (drop 1) e) in
-    (λ i. record { count = count i; regions = regions i })
 
 -- ---- the map of an accepted sheet is accepted
 module _ (s : List ℕ) (memory : ℕ) where
@@ -106,12 +86,77 @@ module _ (s : List ℕ) (memory : ℕ) where
   unfolding readSheet Accepted
   sheet-accepted p = good-finished (mapAt s) map-not p
 
+-- ---- a sheet's map has 32 entries, so that its words stand for it
+Full : Read RegionMap → Type 0
+Full (got m at) = length (m .regions) ≡ 32
+Full (refused r) = Unit {0}
+
+full-either : (t : Bool) (x y : Read RegionMap) → Full x → Full y → Full (cond t x y)
+full-either true x y p q = p
+full-either false x y p q = q
+
+full-after : {A : Type 0} (x : Read A) (f : A → ℕ → Read RegionMap) → ((v : A) (then : ℕ) → Full (f v then)) → Full (next x f)
+unfolding Full
+full-after (got v then) f p = p v then
+full-after (refused r) f p = tt
+
+full-regions : (s : List ℕ) (k n : ℕ) (m : RegionMap) (at : ℕ) → length (m .regions) ≡ 32 → Full (regionsFrom s k n m at)
+unfolding regionsFrom Full
+full-regions s zero n m at h = h
+full-regions s (suc k) n m at h =
+    full-after (regionAt s at) (λ r then. regionsFrom s k (suc n) (withRegion n r m) then)
+    (λ r then. full-regions s k (suc n) (withRegion n r m) then (length-set (m .regions) n r ∙ h))
+
+module _ (s : List ℕ) (memory : ℕ) where
+  full-map : Full (mapAt s)
+  unfolding mapAt Full
+  full-map =
+      full-after (number s 0) (λ n then. cond (countFault n) (refused (place 3 0)) (regionsFrom s n 0 (blankMap n) then))
+      (λ n then. full-either (countFault n) (refused (place 3 0)) (regionsFrom s n 0 (blankMap n) then) tt
+      (full-regions s n 0 (blankMap n) then (length-replicate 32 noRegion)))
+
+  full-checked : (m : RegionMap) (r : Reply) → length (m .regions) ≡ 32 → length (checked m r .map .regions) ≡ 32
+  full-checked m accepted h = h
+  full-checked m (nodes k i j) h = length-replicate 32 noRegion
+  full-checked m (place k p) h = length-replicate 32 noRegion
+  full-checked m (plain k) h = length-replicate 32 noRegion
+
+  full-finished : (x : Read RegionMap) → Full x → length (finished s memory x .map .regions) ≡ 32
+  unfolding Full
+  full-finished (got m at) h = by (ltb at (length s))
+    where
+      by : (t : Bool) → length (cond t (refusal (place 5 at)) (checked m (judged m memory)) .map .regions) ≡ 32
+      by true = length-replicate 32 noRegion
+      by false = full-checked m (judged m memory) h
+  full-finished (refused r) h = length-replicate 32 noRegion
+
+  words-read : mapOf (mapWords (readSheet s memory .map)) ≡ readSheet s memory .map
+  unfolding readSheet
+  words-read = words-map (readSheet s memory .map) (full-finished (mapAt s) full-map)
+
+-- ---- what a sheet leaves in lent words
+module _ (s : List ℕ) (memory : ℕ) (old : List ℕ) where
+  -- The words that `read_sheet` leaves when it accepts stand for the sheet's map, which is accepted.
+  pub made-map : passes (readInto s memory old .reply) ≡ true
+      → (mapOf (readInto s memory old .words) ≡ readSheet s memory .map) × Accepted (mapOf (readInto s memory old .words)) memory
+  unfolding readInto
+  made-map = by (isMap old)
+    where
+      by : (t : Bool) → passes (cond t (laidInto (readSheet s memory) old) (record { reply = plain 27; words = old }) .reply) ≡ true
+          → (mapOf (cond t (laidInto (readSheet s memory) old) (record { reply = plain 27; words = old }) .words) ≡ readSheet s memory .map)
+          × Accepted (mapOf (cond t (laidInto (readSheet s memory) old) (record { reply = plain 27; words = old }) .words)) memory
+      by true p =
+          let laid : mapOf (laidInto (readSheet s memory) old .words) ≡ readSheet s memory .map
+          = ap (λ (b : Bool). mapOf (cond b (mapWords (readSheet s memory .map)) old)) p ∙ words-read s memory in
+          (laid, subst (λ (m : RegionMap). Accepted m memory) (sym laid) (sheet-accepted s memory p))
+      by false p = absurd (never (sym p))
+
 -- ---- a sheet that was read into lent words, with the number that was answered
 pub record ReadAs (o : Outcome) (n : ℕ) (words : List ℕ) : Type 0 where
   pub said : Said (o .reply) n
   pub map : n ≡ 0 → mapOf words ≡ o .map
 
-module _ (s : List ℕ) (memory : ℕ) (old words : List ℕ) (a : SheetAnswer) (n : ℕ) (size : length old ≡ 289) (long : length words ≡ 289)
+module _ (s : List ℕ) (memory : ℕ) (old words : List ℕ) (a : SheetAnswer) (n : ℕ) (size : length old ≡ 289)
     (e : sheetReply a ≡ readInto s memory old .reply) (w : words ≡ readInto s memory old .words) (k : n ≡ numberOf (sheetReply a)) where
   into-words : readInto s memory old ≡ laidInto (readSheet s memory) old
   unfolding readInto
@@ -124,7 +169,6 @@ module _ (s : List ℕ) (memory : ℕ) (old words : List ℕ) (a : SheetAnswer) 
   read-as =
       record {
         said = answered;
-        map = λ z. map-words-injective (mapOf words) (readSheet s memory .map)
-            (map-back words long ∙ w ∙ ap (λ (x : Made). x .words) into-words
-            ∙ ap (λ (b : Bool). cond b (mapWords (readSheet s memory .map)) old) (answered .passed z));
+        map = λ z. ap mapOf w
+            ∙ made-map s memory old (ap (λ (x : Made). passes (x .reply)) into-words ∙ answered .passed z) .0;
       }

@@ -31,6 +31,6 @@ abbrev pub number : List ℕ → ℕ → Read ℕ
 number s at = groups s 8 false at
 
 -- what the reader of one number answers
-abbrev pub numberOf : NumberRead → Read ℕ
-numberOf (Value v c) = got v (c .at)
-numberOf (Refused a) = refused (sheetReply a)
+abbrev pub readBy : NumberRead → Read ℕ
+readBy (Value v c) = got v (c .at)
+readBy (Refused a) = refused (sheetReply a)

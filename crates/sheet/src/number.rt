@@ -2,7 +2,7 @@
 ghost use mathlib.Core.Path.{_≡_};
 ghost use Prim.Native.Nat.{_<_};
 ghost use Rattle.sheet.specs.Number.{number as numberAt};
-ghost use Rattle.sheet.specs.Number.{numberOf};
+ghost use Rattle.sheet.specs.Number.{readBy};
 use crate::answer::Cursor;
 use crate::answer::SheetAnswer;
 
@@ -22,7 +22,7 @@ fn wide(x: u8) -> u64
 
 // The number at a cursor, and the cursor past it.
 pub fn read_number(sheet: &[u8], from: Cursor) -> NumberRead
-    ensures { λ r. ⌜ numberOf r ≡ numberAt (now (sheet .entry)) (from .at) ⌝ }
+    ensures { λ r. ⌜ readBy r ≡ numberAt (now (sheet .entry)) (from .at) ⌝ }
 {
     let mut at = from.at;
     let mut value: u64 = 0;

@@ -5,13 +5,11 @@ use mathlib.Core.List.{List}
 use Prim.Native.Nat.{ℕ, _-_, _≤_, _<_}
 use native.Mathlib.Decide.{decLt}
 use native.Mathlib.Omega.{arith}
-use lib.ListN.{length, getD, drop, replicate, length-append, length-replicate}
+use lib.ListN.{length, replicate, length-append, length-replicate}
 use Rattle.map_records.specs.View.{noRange}
 use Rattle.map_records.specs.Words.{viewOf, viewWords}
 use Rattle.map_records.specs.declared.map.RegionMap.{RegionMap}
-use Rattle.map_records.specs.declared.view.FlatView.{FlatView}
-use Rattle.map_records.proofs.WordLaws.{ranges-grouped, view-back}
-use Rattle.map_records.proofs.GroupLaws.{puts-length, puts-injective}
+use Rattle.map_records.proofs.WordLaws.{words-view}
 use Rattle.map_check.specs.Check.{judged, Accepted}
 use Rattle.map_check.specs.Reply as reply
 use Rattle.map_check.specs.Reply.{Reply, accepted, plain, ifAccepted}
@@ -19,16 +17,6 @@ use Rattle.region_map.specs.Flatten.{Outcome, flatList, viewHolding, refusal, l
 use Rattle.region_map.specs.Flatten as flatten
 use Rattle.region_map.proofs.Demand3.{demand3-first-half, refused-12}
 use Rattle.virtqueue.specs.SecondHalf.{Made}
-
--- the words of a view stand for it
-pub words-view : (v : FlatView) → length (v .ranges) ≡ 256 → viewOf (viewWords v) ≡ v
-unfolding viewWords
-words-view v h =
-    let size : length (viewWords v) ≡ 1537 = omega (arith, puts-length ranges-grouped (v .ranges)) in
-    let e : viewWords (viewOf (viewWords v)) ≡ viewWords v = view-back (viewWords v) size in
-    let count : viewOf (viewWords v) .count ≡ v .count = ap (λ (l : List ℕ). getD l 0 0) e in
-    let ranges = puts-injective ranges-grouped (omega arith) (viewOf (viewWords v) .ranges) (v .ranges) (ap (drop 1) e) in
-    λ i. record { count = count i; ranges = ranges i }
 
 module _ (m : RegionMap) (size : ℕ) (old view : List ℕ) where
   -- a view is made of an accepted map alone

@@ -37,7 +37,7 @@ pub data Following : Type 0 where
   onward : ℕ → Following
   astray : Following
 
--- in a table of `size` descriptors, the split ring's or an indirect one: 20, 'next not below the queue size'
+-- in a table of `size` descriptors: 20, 'next not below the queue size'
 abbrev pub nextBelow : ℕ → Descriptor → ℕ → Following
 nextBelow size d i = cond (ltb (d .next) size) (onward (d .next)) astray
 
@@ -52,7 +52,7 @@ visit reached next i late rest (here d) =
     cond (misplaced late d) (ended 20)
     (cond (reached d) (element d (cond (hasNext d) (goOn (λ j. rest j (isWritable d)) (next d i)) whole)) (rejected d))
 
--- The chain from entry i on, of at most `left` more descriptors. With none left, NEXT was 'set in the descriptor that is the queue-size-th of the chain'. Where descriptors are read, which are reached, which entry follows and how many there may be are parameters: ring, indirect table and packed ring share it.
+-- The chain from entry i on, of at most `left` more descriptors. With none left, NEXT was 'set in the descriptor that is the queue-size-th of the chain'. Where descriptors are read, which are reached, which entry follows and how many there may be are parameters, so that another ring can share it.
 unfoldable pub follow : (ℕ → Entry) → (Descriptor → Bool) → (Descriptor → ℕ → Following) → ℕ → ℕ → Bool → Chain
 follow fetch reached next zero i late = ended 20
 follow fetch reached next (suc left) i late = visit reached next i late (follow fetch reached next left) (fetch i)

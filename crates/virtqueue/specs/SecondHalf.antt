@@ -17,7 +17,7 @@ use Rattle.virtqueue.specs.Step as step
 use Rattle.virtqueue.specs.declared.chain.Descriptor.{Descriptor}
 use Rattle.virtqueue.specs.declared.queue.SplitQueue.{SplitQueue}
 
--- 'the tree leads each of its bytes to plain RAM or to a block plugged when the step began'
+-- the tree leads each byte of the element to plain RAM or to a block plugged when the step began
 abbrev pub Led : Guest → Descriptor → Type 0
 Led t e = (i : ℕ) → i < e .length → t .reach (e .addr .0 + i) ≡ true
 
@@ -25,20 +25,20 @@ Led t e = (i : ℕ) → i < e .length → t .reach (e .addr .0 + i) ≡ true
 unfoldable pub elementsOf : FlatView → MemoryDevice → SplitQueue → List ℕ → Chain
 elementsOf v d q memory = cond (recordsOk v d q (length memory)) (comesTo (byView v d) memory q) (ended 27)
 
--- 'accepts .. exactly when': those accepted are led, the one rejected is not
+-- exactly: those accepted are led, the one rejected is not
 abbrev pub Exactly : (Descriptor → Type 0) → Chain → Type 0
 Exactly P whole = Unit {0}
 Exactly P (ended k) = Unit {0}
 Exactly P (rejected e) = P e → ⊥
 Exactly P (element e c) = P e × Exactly P c
 
--- 'memory is the former one with the ten response bytes and then the ten used-ring bytes written at the places to which the tree leads them'
+-- the former memory with the ten response bytes and then the ten used-ring bytes written at the places to which the tree leads them
 abbrev pub servedAt : Guest → MemoryDevice → SplitQueue → List ℕ → Chain → List ℕ
 servedAt t d q memory c =
     servedMemory memory (responsePlaces (t .place) c) (carrying d (requestBytes (t .place) memory c) .response)
     (usedPlaces (t .place) q) (usedBytes (q .«next_used») (entry t memory q))
 
--- 'whatever memory, device record and queue record hold'
+-- over any view, device record, queue record and memory
 pub record SecondHalf (t : Guest) (v : FlatView) (d : MemoryDevice) (q : SplitQueue) (memory : List ℕ) : Type 0 where
   pub accepts : Exactly (Led t) (elementsOf v d q memory)
   pub served : (notify : Bool) → stepped v d q memory .answer ≡ step.served notify → stepped v d q memory .memory ≡ servedAt t d q memory (elementsOf v d q memory)

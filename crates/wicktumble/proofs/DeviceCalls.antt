@@ -3,8 +3,7 @@ use mathlib.Core.Path.{_≡_, refl, sym, ap, _∙_}
 use mathlib.Core.Bool.{true, false}
 use mathlib.Core.List.{List}
 use Prim.{⊥}
-use Prim.Native.Nat.{ℕ, suc}
-use native.Mathlib.Omega.{arith}
+use Prim.Native.Nat.{ℕ}
 use lib.Dec.{eqb}
 use lib.ListN.{length}
 use borrow.Author.Tests.{eq-eqb, ne-eqb}
@@ -18,13 +17,13 @@ use Rattle.memory_device.specs.Lent.{leaves, Left, Carries}
 use Rattle.memory_device.specs.declared.device.HostAnswer.{HostAnswer}
 use Rattle.memory_device.specs.declared.setup.SetUpAnswer.{SetUpAnswer}
 use Rattle.memory_device.specs.declared.setup.SetUpAnswer.the-variants.{Checked, Values}
-use Rattle.map_check.proofs.Answers.{reply-form}
+use Rattle.map_check.proofs.Answers.{map-zero}
 use Rattle.wicktumble.specs.Devices.{Changes, changes, Requested, Answers, answers, requestCall}
 use Rattle.wicktumble.proofs.CallLaws.{taken, refused}
 
 -- ---- a number is 0 where nothing is refused, and only there
 set-up-zero : (a : SetUpAnswer) → eqb (numberOf (setUpReply a)) 0 ≡ passes (setUpReply a)
-set-up-zero (Checked a) = reply-form (λ r. eqb (numberOf r) 0 ≡ passes r) refl (λ k i j. ne-eqb (suc k) 0 (λ (e : suc k ≡ 0). omega arith)) a
+set-up-zero (Checked a) = map-zero a
 set-up-zero Values = refl
 
 -- ---- a set-up: the words of the fresh device are put, or none

@@ -18,7 +18,7 @@ Tells c n x = (n ≡ c .number) × (x ≡ c .result)
 abbrev pub told : ℕ → ℕ → ℕ → ℕ → Told
 told n a b c = record { number = n; result = a ∷ b ∷ c ∷ [] }
 
--- 'places and nodes': a reply's byte place, or its first node, and its second node
+-- places and nodes: a reply's byte place, or its first node, and its second node
 abbrev pub firstOf : Reply → ℕ
 firstOf accepted = 0
 firstOf (nodes k i j) = i

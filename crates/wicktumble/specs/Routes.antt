@@ -20,16 +20,16 @@ inWords (n ∷ result) = record { number = n; result = result }
 abbrev pub routeTold : Routed → Told
 routeTold r = inWords (answerWords r)
 
--- a device of no words is none
-abbrev pub noDevice : List ℕ → Bool
-noDevice device = eqb (length device) 0
+-- a device of no words is none: 27 then judges no region, and no block is plugged
+abbrev pub isNone : List ℕ → Bool
+isNone device = eqb (length device) 0
 
 abbrev pub routeBy : List ℕ → ℕ → List ℕ → ℕ → ℕ → Routed
 routeBy view memory device a w =
-    cond (noDevice device) (routedWithout (viewOf view) memory a w) (routedWith (viewOf view) memory (deviceOf device) a w)
+    cond (isNone device) (routedWithout (viewOf view) memory a w) (routedWith (viewOf view) memory (deviceOf device) a w)
 
 abbrev pub routeFits : List ℕ → List ℕ → List ℕ → Bool
-routeFits view device result = isView view && ((noDevice device || isDevice device) && isResult result)
+routeFits view device result = isView view && ((isNone device || isDevice device) && isResult result)
 
 unfoldable pub routeCall : List ℕ → ℕ → List ℕ → ℕ → ℕ → List ℕ → Told
 routeCall view memory device a w result = cond (routeFits view device result) (routeTold (routeBy view memory device a w)) (untold result)
@@ -37,7 +37,7 @@ routeCall view memory device a w result = cond (routeFits view device result) (r
 -- many accesses at once, two words each, with four words for each answer
 unfoldable pub routeAllCall : List ℕ → ℕ → List ℕ → List ℕ → List ℕ → RoutedAll
 routeAllCall view memory device accesses answers =
-    cond (noDevice device) (allWithout (viewOf view) memory accesses answers)
+    cond (isNone device) (allWithout (viewOf view) memory accesses answers)
     (allWith (viewOf view) memory (deviceOf device) accesses answers)
 
 -- what the list gives an address, told as what the walk gives

@@ -14,7 +14,7 @@ use Rattle.listing.proofs.listing.list_sheet.Tie as tie
 told : (c : tie.After-number-of) → ReadAs (readSheet (c .before .before .before .before .before .before .args .sheet .now) (c .before .before .before .before .before .before .args .memory-length)) (c .number-of .result) (c .before .before .read-sheet .last .1 .1 .0)
 told c =
     let f = c .before .before .read-sheet in
-    read-as _ _ _ _ (f .result) _ (length-replicate {A = ℕ} 289 0) (c .before .map2 .given) (f .ensures .0) (f .ensures .1) (c .number-of .ensures)
+    read-as _ _ _ _ (f .result) _ (length-replicate {A = ℕ} 289 0) (f .ensures .0) (f .ensures .1) (c .number-of .ensures)
 
 returns : tie.Need-returns
 unfolding listingText

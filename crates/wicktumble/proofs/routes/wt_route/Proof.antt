@@ -6,7 +6,7 @@ use Rattle.region_map.specs.Flatten.{isView}
 use Rattle.map_check.proofs.Bools.{and-snd}
 use Rattle.device_words.specs.Words.{isDevice}
 use Rattle.wicktumble.specs.Result.{isResult}
-use Rattle.wicktumble.specs.Routes.{noDevice, routeTold, routeCall}
+use Rattle.wicktumble.specs.Routes.{isNone, routeTold, routeCall}
 use Rattle.wicktumble.proofs.CallLaws.{taken, refused, result-fits, untold-as, told-as}
 use Rattle.wicktumble.proofs.routes.wt_route.Statement.{statement}
 use Rattle.wicktumble.proofs.routes.wt_route.Tie as tie
@@ -15,7 +15,7 @@ tell-requires : tie.Need-tell-requires
 tell-requires c κs =
     let s = c .before .before .before in
     let a = s .before .before .before .before .args in
-    let known = noDevice (a .device .now) || isDevice (a .device .now) in
+    let known = isNone (a .device .now) || isDevice (a .device .now) in
     result-fits known (a .result .now) (and-snd (isView (a .view .now)) (known && isResult (a .result .now)) (s .if1 .taken))
 
 returns : tie.Need-returns
