@@ -77,7 +77,7 @@ queueReply answer.Record = plain 27
 abbrev pub givenBy : QueueGiven → Given
 givenBy g = record { reply = queueReply (g .answer); queue = g .queue }
 
--- VIRTIO 2.6.6 and 2.6.8: a ring has flags and idx of two bytes each, then its entries, of which a count takes its own modulo the size, and behind them two bytes of an event index, which 16 counts and no step reads or writes; places by the ring's address, a count and the size
+-- VIRTIO 2.6.6 and 2.6.8: a ring has flags and idx of two bytes each, then its entries, of which a count takes its own modulo the size, and behind them two bytes of an event index, which 16 counts and the device does not use; places by the ring's address, a count and the size
 abbrev pub ringEntryAt : ℕ → ℕ → ℕ → ℕ
 ringEntryAt available count size = available + 4 + 2 * (count % size)
 
