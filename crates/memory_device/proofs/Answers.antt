@@ -4,11 +4,21 @@ use mathlib.Core.Bool.{cond}
 use lib.Dec.{eqb}
 use Rattle.map_check.specs.Reply.{Reply, accepted, nodes, place, plain}
 use Rattle.map_check.proofs.Answers.{injective, answerOf, reply-back, reply-form}
-use Rattle.memory_device.specs.Record.{hostReply}
+use Rattle.device_words.specs.Device.{MemoryDevice}
+use Rattle.device_words.specs.Request as carry
+use Rattle.memory_device.specs.Record as record-of
+use Rattle.memory_device.specs.Record.{hostReply, recordOf}
+use Rattle.memory_device.specs.Request as request-of
 use Rattle.memory_device.specs.Host as byte
 use Rattle.memory_device.specs.SetUp.{setUpReply}
+use Rattle.memory_device.specs.SetUp as set-up-of
 use Rattle.memory_device.specs.declared.device.HostAnswer.{HostAnswer}
 use Rattle.memory_device.specs.declared.device.HostAnswer.the-variants.{Done, Size, Pin, Record}
+use Rattle.memory_device.specs.declared.device.Changed.{Changed}
+use Rattle.memory_device.specs.declared.device.MemoryDevice as value
+use Rattle.memory_device.specs.declared.host.Configuration.{Configuration}
+use Rattle.memory_device.specs.declared.request.Carried.{Carried}
+use Rattle.memory_device.specs.declared.setup.SetUp.{SetUp}
 use Rattle.memory_device.specs.declared.lent.ByteBlock.{ByteBlock}
 use Rattle.memory_device.specs.declared.lent.ByteBlock.the-variants as found
 use Rattle.memory_device.specs.declared.setup.SetUpAnswer.{SetUpAnswer}
@@ -55,3 +65,63 @@ byte-back found.Record = refl
 
 pub byte-block-injective : (a b : ByteBlock) → byte.byteOf a ≡ byte.byteOf b → a ≡ b
 byte-block-injective = injective byte.byteOf byteBlockOf byte-back
+
+-- ---- with the record that goes by value beside an answer
+valueOf : MemoryDevice → value.MemoryDevice
+valueOf d =
+    record {
+      «block_size» = d .«block_size»;
+      addr = record { 0 = d .addr };
+      «region_size» = d .«region_size»;
+      «usable_size» = d .«usable_size»;
+      «requested_size» = d .«requested_size»;
+      plugged = d .plugged;
+      pinned = d .pinned;
+    }
+
+value-back : (d : value.MemoryDevice) → valueOf (recordOf d) ≡ d
+unfolding valueOf
+value-back d = refl
+
+pub record-injective : (a b : value.MemoryDevice) → recordOf a ≡ recordOf b → a ≡ b
+record-injective = injective recordOf valueOf value-back
+
+changedOf : record-of.Outcome → Changed
+changedOf o = record { answer = hostOf (o .reply); device = valueOf (o .device) }
+
+changed-back : (c : Changed) → changedOf (record-of.outcomeOf c) ≡ c
+unfolding changedOf valueOf
+changed-back c = ap (λ a. record { answer = a; device = c .device }) (host-back (c .answer))
+
+pub changed-injective : (a b : Changed) → record-of.outcomeOf a ≡ record-of.outcomeOf b → a ≡ b
+changed-injective = injective record-of.outcomeOf changedOf changed-back
+
+carriedOf : carry.Outcome → Carried
+carriedOf o = record { answer = hostOf (o .reply); response = o .response; device = valueOf (o .device) }
+
+carried-back : (c : Carried) → carriedOf (request-of.outcomeOf c) ≡ c
+unfolding carriedOf valueOf
+carried-back c = ap (λ a. record { answer = a; response = c .response; device = c .device }) (host-back (c .answer))
+
+pub carried-injective : (a b : Carried) → request-of.outcomeOf a ≡ request-of.outcomeOf b → a ≡ b
+carried-injective = injective request-of.outcomeOf carriedOf carried-back
+
+configurationOf : byte.Read → Configuration
+configurationOf r = record { answer = hostOf (r .reply); bytes = r .bytes }
+
+configuration-back : (c : Configuration) → configurationOf (byte.readOf c) ≡ c
+unfolding configurationOf
+configuration-back c = ap (λ a. record { answer = a; bytes = c .bytes }) (host-back (c .answer))
+
+pub configuration-injective : (a b : Configuration) → byte.readOf a ≡ byte.readOf b → a ≡ b
+configuration-injective = injective byte.readOf configurationOf configuration-back
+
+setOf : record-of.Outcome → SetUp
+setOf o = record { answer = setUpOf (o .reply); device = valueOf (o .device) }
+
+set-back : (s : SetUp) → setOf (set-up-of.outcomeOf s) ≡ s
+unfolding setOf valueOf
+set-back s = ap (λ a. record { answer = a; device = s .device }) (set-up-back (s .answer))
+
+pub set-up-injective : (a b : SetUp) → set-up-of.outcomeOf a ≡ set-up-of.outcomeOf b → a ≡ b
+set-up-injective = injective set-up-of.outcomeOf setOf set-back
