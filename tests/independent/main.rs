@@ -258,6 +258,10 @@ fn random_map(r: &mut Rng) -> (Vec<Node>, u64) {
         2 => ladder(r),
         3 => tower(r),
         4 => slices(r),
+        5 => {
+            let (nodes, memory_length, _) = parked(r);
+            (nodes, memory_length)
+        }
         _ => plain_map(r),
     }
 }
@@ -371,7 +375,7 @@ fn part_priorities(r: &mut Rng, nodes: &mut [Node]) {
                 a.parent != 0
                     && a.parent == b.parent
                     && priority(a.priority) == priority(b.priority)
-                    && a.offset.max(b.offset) < (a.offset + a.size).min(b.offset + b.size)
+                    && clash_below(nodes[a.parent as usize - 1].size, a, b)
             });
             if !clash {
                 break;
@@ -610,6 +614,148 @@ fn slices(r: &mut Rng) -> (Vec<Node>, u64) {
         nodes.push(Node { kind: CONTAINER, size, ..Node::default() });
     }
     (nodes, unit * count)
+}
+
+/// How two children of equal priority lie at the end of their parent.
+#[derive(Clone, Copy, PartialEq)]
+enum Meeting {
+    /// They share addresses, all of them past the end.
+    Beyond,
+    /// One begins at the end, inside the other.
+    AtTheEnd,
+    /// The last address below the end is the only one that they share.
+    LastAddress,
+    /// They share addresses on both sides of the end.
+    Across,
+    /// They share addresses below it, all of them past the end of the parent's own parent.
+    CutOff,
+    /// They share addresses below it, all of them under a sibling of a higher priority.
+    Hidden,
+}
+
+/// Each as often as it takes for half of the maps to be accepted.
+const MEETINGS: &[Meeting] = &[
+    Meeting::Beyond,
+    Meeting::Beyond,
+    Meeting::AtTheEnd,
+    Meeting::AtTheEnd,
+    Meeting::LastAddress,
+    Meeting::Across,
+    Meeting::CutOff,
+    Meeting::Hidden,
+];
+
+/// Offsets and sizes of two children that meet so at the end of a parent; those of the last two meetings
+/// lie in the parent's second half.
+fn met(r: &mut Rng, meeting: Meeting, end: u64) -> [(u64, u64); 2] {
+    let (before, past) = (1 + r.below(end / 2), 1 + r.below(end));
+    match meeting {
+        Meeting::Beyond => {
+            let at = end + r.below(4);
+            [(at, past), (at + r.below(past), 1 + r.below(end))]
+        }
+        Meeting::AtTheEnd => [(end - r.below(before + 1), before + past), (end, 1 + r.below(end))],
+        Meeting::LastAddress => {
+            let first = r.pick(&[end - before, end - 1]);
+            if r.one_in(2) {
+                [(first, end - first), (end - 1, past)]
+            } else {
+                [(first, end - first + past), (end - 1, 1)]
+            }
+        }
+        Meeting::Across => {
+            let second = end - 1 - r.below(before);
+            [(end - before, before + past), (second, end - second + 1 + r.below(end))]
+        }
+        Meeting::CutOff | Meeting::Hidden => {
+            let at = end / 2 + r.below(end - end / 2);
+            [(at, 1 + r.below(end - at)), (end / 2, at - end / 2 + 1 + r.below(end))]
+        }
+    }
+}
+
+/// A bus with two cards of equal priority at its end, and a third of another priority; the bus shows in the
+/// root as a child of it, through an alias with an offset, or as both. With the answer that document 02's
+/// Req 02 gives: the two cards where they clash.
+fn parked(r: &mut Rng) -> (Vec<Node>, u64, Option<(u64, u64)>) {
+    let meeting = r.pick(MEETINGS);
+    let unit = r.pick(&[1, 1, 16, 4096, 1 << 40]);
+    let end = unit * (4 + r.below(16));
+    let [first, second] = met(r, meeting, end);
+    let level = r.pick(&[0, 1, 127, 128, 129]);
+    let higher = 200 + r.below(56);
+    let third = match meeting {
+        Meeting::Hidden => (r.below(end / 2), 2 * end, higher),
+        _ => (r.below(2 * end), 1 + r.below(end), r.pick(&[2, higher])),
+    };
+    let mut cards = vec![
+        (first, level, true),
+        (second, if level == 0 { r.pick(&[0, 128]) } else { level }, true),
+        ((third.0, third.1), third.2, false),
+    ];
+    let turn = r.below(3) as usize;
+    cards.rotate_left(turn);
+    if r.one_in(2) {
+        cards.swap(0, 1);
+    }
+    let mut nodes = Vec::new();
+    let mut pair = Vec::new();
+    let mut cursor = 0;
+    for (i, ((offset, size), priority, meets)) in cards.into_iter().enumerate() {
+        let kind = if meets { r.pick(&[RAM, MMIO, CONTAINER]) } else { r.pick(&[RAM, MMIO]) };
+        let mut card = Node { kind, parent: 4, offset, size, priority, ..Node::default() };
+        match kind {
+            RAM => {
+                card.start = cursor;
+                cursor += size;
+            }
+            MMIO => card.port = i as u64,
+            _ => {}
+        }
+        if meets {
+            pair.push(i as u64);
+        }
+        nodes.push(card);
+    }
+    let bus_kind = r.pick(&[CONTAINER, CONTAINER, MMIO]);
+    let mut bus = Node {
+        kind: bus_kind,
+        size: end,
+        port: if bus_kind == MMIO { 9 } else { 0 },
+        ..Node::default()
+    };
+    let at = unit * r.below(8);
+    if meeting == Meeting::CutOff {
+        // The bus above ends in the middle of this one; it is what shows in the root.
+        bus.parent = 5;
+        bus.offset = at;
+        nodes.push(bus);
+        bus = Node { kind: CONTAINER, size: at + end / 2, ..Node::default() };
+    }
+    let shown = nodes.len() as u64;
+    let root = Node { kind: CONTAINER, size: unit * (1 + r.below(64)), ..Node::default() };
+    let child = !r.one_in(3);
+    let alias = !child || r.one_in(2);
+    nodes.push(bus);
+    if alias {
+        nodes.push(Node {
+            kind: ALIAS,
+            parent: shown + 3,
+            offset: unit * r.below(32),
+            size: 1 + r.below(2 * end),
+            priority: 77,
+            target: shown,
+            alias_offset: r.below(end),
+            ..Node::default()
+        });
+    }
+    if child {
+        nodes[shown as usize].parent = nodes.len() as u64 + 1;
+        nodes[shown as usize].offset = unit * r.below(8);
+    }
+    nodes.push(root);
+    let clash = !matches!(meeting, Meeting::Beyond | Meeting::AtTheEnd);
+    (nodes, cursor, clash.then_some((pair[0], pair[1])))
 }
 
 /// Breaks a map in one to three places.
@@ -865,9 +1011,8 @@ fn telling_address(r: &mut Rng, runs: &[Run]) -> u64 {
     base.wrapping_add(r.below(5)).wrapping_sub(2)
 }
 
-fn walk_case(r: &mut Rng, tally: &mut Tally) -> Result<(), String> {
-    let damaged = r.one_in(6);
-    let mut state = map_state(r, damaged);
+/// wt_walk on words 0 (map) and 1 (result), number 0 (memory length), at six telling addresses.
+fn walk_both(r: &mut Rng, tally: &mut Tally, state: &mut State) -> Result<(), String> {
     let nodes = model::check_map(&state.words[0].1[..MAP], state.n(0));
     let runs = nodes.map(|n| Tree::new(n).runs()).unwrap_or_default();
     state.numbers.push(("address", 0));
@@ -876,7 +1021,7 @@ fn walk_case(r: &mut Rng, tally: &mut Tally) -> Result<(), String> {
         both(
             tally,
             "wt_walk",
-            &mut state,
+            state,
             |s| {
                 let (n, a) = (s.n(0), s.n(1));
                 let (map, result) = s.w2(0, 1);
@@ -892,15 +1037,18 @@ fn walk_case(r: &mut Rng, tally: &mut Tally) -> Result<(), String> {
     Ok(())
 }
 
-/// words: map, view, result.
-fn flatten_case(r: &mut Rng, tally: &mut Tally) -> Result<(), String> {
-    let damaged = r.one_in(8);
+fn walk_case(r: &mut Rng, tally: &mut Tally) -> Result<(), String> {
+    let damaged = r.one_in(6);
     let mut state = map_state(r, damaged);
-    state.words.insert(1, ("view", garbage(r, VIEW), length(r, VIEW)));
+    walk_both(r, tally, &mut state)
+}
+
+/// wt_flatten on words 0 (map), 1 (view) and 2 (result), number 0 (memory length).
+fn flatten_both(tally: &mut Tally, state: &mut State) -> Result<u64, String> {
     both(
         tally,
         "wt_flatten",
-        &mut state,
+        state,
         |s| {
             let n = s.n(0);
             let (map, rest) = s.words.split_at_mut(1);
@@ -914,7 +1062,37 @@ fn flatten_case(r: &mut Rng, tally: &mut Tally) -> Result<(), String> {
             calls::flatten(&map[0].1[..map[0].2], n, view, result)
         },
     )
-    .map(|_| ())
+}
+
+fn flatten_case(r: &mut Rng, tally: &mut Tally) -> Result<(), String> {
+    let damaged = r.one_in(8);
+    let mut state = map_state(r, damaged);
+    state.words.insert(1, ("view", garbage(r, VIEW), length(r, VIEW)));
+    flatten_both(tally, &mut state).map(|_| ())
+}
+
+/// Two children of equal priority at the end of their parent. The answer is known from how they were laid
+/// out, whatever the model says.
+fn parked_case(r: &mut Rng, tally: &mut Tally) -> Result<(), String> {
+    let (nodes, memory_length, clash) = parked(r);
+    let words = map_words(&nodes);
+    let mut state = State {
+        words: vec![("map", guarded(r, &words), MAP), ("result", garbage(r, RESULT), RESULT)],
+        bytes: vec![],
+        numbers: vec![("memory_length", memory_length)],
+    };
+    let number = check_both(tally, &mut state)?;
+    let result = &state.words[1].1[..RESULT];
+    let told = match clash {
+        Some((a, b)) => number == 11 && result == [a, b, 0],
+        None => number == 0,
+    };
+    if !told {
+        return Err(format!("{number} {result:?} where {clash:?} clash, of {nodes:#?}"));
+    }
+    walk_both(r, tally, &mut state)?;
+    state.words.insert(1, ("view", garbage(r, VIEW), VIEW));
+    flatten_both(tally, &mut state).map(|_| ())
 }
 
 // -------------------------------------------------------------------------------- kind: set-up, host
@@ -2455,6 +2633,7 @@ const KINDS: &[&str] = &[
     "check",
     "walk",
     "flatten",
+    "parked",
     "set-up",
     "request",
     "route",
@@ -2472,13 +2651,14 @@ fn one(kind: usize, seed: u64, tally: &mut Tally, noise: &[u8]) -> Result<(), St
         1 => check_case(r, tally),
         2 => walk_case(r, tally),
         3 => flatten_case(r, tally),
-        4 => host_case(r, tally),
-        5 => request_case(r, tally),
-        6 => route_case(r, tally).and_then(|()| route_all_case(r, tally)),
-        7 => look_up_case(r, tally),
-        8 => queue_case(r, tally),
-        9 => step_case(r, tally, noise),
-        10 => run_case(r, tally, noise),
+        4 => parked_case(r, tally),
+        5 => host_case(r, tally),
+        6 => request_case(r, tally),
+        7 => route_case(r, tally).and_then(|()| route_all_case(r, tally)),
+        8 => look_up_case(r, tally),
+        9 => queue_case(r, tally),
+        10 => step_case(r, tally, noise),
+        11 => run_case(r, tally, noise),
         _ => self_case(r, noise),
     }
 }

@@ -267,8 +267,14 @@ pub fn check_nodes(nodes: &[Node], memory_length: u64) -> Result<(), Refusal> {
         a.parent != 0
             && a.parent == b.parent
             && priority(a.priority) == priority(b.priority)
-            && share(a.offset, a.size, b.offset, b.size)
+            && clash_below(nodes[a.parent as usize - 1].size, a, b)
     })
+}
+
+/// Whether two children share an address below their parent's size (document 02, Req 02).
+pub fn clash_below(parent_size: u64, a: &Node, b: &Node) -> bool {
+    let end = (a.offset + a.size).min(b.offset + b.size).min(parent_size);
+    a.offset.max(b.offset) < end
 }
 
 /// Whether [a, a + a_size) and [b, b + b_size) have a number in common.

@@ -1,35 +1,47 @@
 -- A map is accepted exactly when it is sound: the check's refusals turned into facts over every region and pair, and back. Assumes nothing.
 use mathlib.Core.Path.{_≡_, refl, sym, ap, _∙_}
 use mathlib.Core.Bool.{true, false, cond, _&&_, _||_, not}
-use Prim.Native.Nat.{ℕ, _+_, _-_, _≤_, _<_, max}
+use Prim.Native.Nat.{ℕ, suc, _+_, _-_, _≤_, _<_, max}
 use native.Mathlib.Omega.{arith}
 use lib.Dec.{eqb, leb, ltb}
 use borrow.Author.Tests.{ltb-true, ltb-false, le-ltb, leb-true, leb-false, lt-leb, eqb-true, eqb-false, not-true, lt-ltb, eq-eqb, ne-eqb}
 use Rattle.map_records.specs.Map.{container, mmio, alias, managed, has, valueOf, region}
 use Rattle.map_check.specs.Fault.{limit, parentOf, backed, kindFault, extra, largeFault, rangeFault, extraFault, fieldFault, parentFault, targetFault, rootFault, linkFault, memoryFault}
-use Rattle.map_check.specs.Clash.{share, priorityOf, memoryClash, managedClash, portClash, siblings, siblingClash}
+use Rattle.map_check.specs.Clash.{share, shareBelow, priorityOf, memoryClash, managedClash, portClash, siblings, clashBelow, siblingClash}
 use Rattle.map_check.specs.Reply.{Reply, accepted, nodes, place, plain, _then_, passes, lowest, firstPair}
 use Rattle.map_check.specs.Contracts.{Walkable}
 use Rattle.map_check.specs.Check.{judged, countFault, Accepted}
-use Rattle.map_check.specs.Sound.{Apart, Bounded, Parented, Rooted, Sound}
+use Rattle.map_check.specs.Sound.{ApartBelow, Apart, Bounded, Parented, Rooted, Sound}
 use Rattle.map_records.specs.declared.map.Region.{Region}
 use Rattle.map_records.specs.declared.map.RegionMap.{RegionMap}
 use Rattle.map_records.specs.declared.map.Field.{Field}
 use Rattle.map_records.specs.declared.map.Field.the-variants.{Parent, Offset, Size, Priority, MemoryStart, Port, Target, AliasOffset}
-use Rattle.map_check.proofs.Bools.{or-left, or-right, none-of-3, none-of-4, and-fst, and-snd, and-right, and-true, and-no, never, not-eqb, is-eqb}
+use Rattle.map_check.proofs.Bools.{or-left, or-right, none-of-3, none-of-4, and-fst, and-snd, and-left, and-right, and-true, and-no, never, not-eqb, is-eqb}
 use Rattle.map_check.proofs.First.{then-left, then-right, then-both, chosen, refused, unchosen, lowest-all, lowest-none, pair-all, pair-none}
 
 -- Each rule, passed, as facts; and the facts as the rule, passed.
 
--- ranges that do not share have no number in common
-pub apart : (a s b t : ℕ) → share a s b t ≡ false → Apart a s b t
-apart a s b t e x p q r w =
-    never (sym (lt-ltb (max a b) (b + t) (omega arith)) ∙ and-right (ltb (max a b) (a + s)) (ltb (max a b) (b + t)) e (lt-ltb (max a b) (a + s) (omega arith)))
+-- ranges share no number below e exactly when none below e lies in both
+apart-below : (e a s b t : ℕ) → shareBelow e a s b t ≡ false → ApartBelow e a s b t
+apart-below e a s b t h x l p q r w =
+    let both = and-true (ltb (max a b) (a + s)) (ltb (max a b) (b + t)) (lt-ltb (max a b) (a + s) (omega arith)) (lt-ltb (max a b) (b + t) (omega arith)) in
+    never (sym (lt-ltb (max a b) e (omega arith)) ∙ and-right (share a s b t) (ltb (max a b) e) h both)
+
+not-shared-below : (e a s b t : ℕ) → ApartBelow e a s b t → shareBelow e a s b t ≡ false
+not-shared-below e a s b t h =
+    let x = ltb (max a b) (a + s) in
+    let y = ltb (max a b) (b + t) in
+    and-no (share a s b t) (ltb (max a b) e) (λ p l.
+    h (max a b) (ltb-true (max a b) e l) (omega arith) (ltb-true (max a b) (a + s) (and-fst x y p)) (omega arith) (ltb-true (max a b) (b + t) (and-snd x y p)))
+
+-- and none at all exactly when there is none below any e
+apart : (a s b t : ℕ) → share a s b t ≡ false → Apart a s b t
+apart a s b t h e = apart-below e a s b t (rw h)
 
 not-shared : (a s b t : ℕ) → Apart a s b t → share a s b t ≡ false
 not-shared a s b t h =
-    and-no (ltb (max a b) (a + s)) (ltb (max a b) (b + t)) (λ p q.
-    h (max a b) (omega arith) (ltb-true (max a b) (a + s) p) (omega arith) (ltb-true (max a b) (b + t) q))
+    let e = suc (max a b) in
+    and-left (share a s b t) (ltb (max a b) e) (not-shared-below e a s b t (h e)) (lt-ltb (max a b) e (omega arith))
 
 -- 6: one field that the kind lacks
 lacks : (r : Region) (f : Field) → extra r f ≡ false → has (r .kind) f ≡ false → valueOf f r ≡ 0
@@ -175,27 +187,27 @@ once-port a b h =
     and-no (x && y) (eqb (a .port) (b .port)) (λ p q.
     h (eqb-true (a .kind) mmio (and-fst x y p)) (eqb-true (b .kind) mmio (and-snd x y p)) (eqb-true (a .port) (b .port) q))
 
-sibling-apart : (a b : Region) → (siblings a b && eqb (priorityOf a) (priorityOf b) && share (a .offset) (a .size) (b .offset) (b .size)) ≡ false
-    → (a .parent ≡ 0 → ⊥) → a .parent ≡ b .parent → priorityOf a ≡ priorityOf b → Apart (a .offset) (a .size) (b .offset) (b .size)
-sibling-apart a b e x y z =
-    apart (a .offset) (a .size) (b .offset) (b .size)
-    (and-right (siblings a b && eqb (priorityOf a) (priorityOf b)) (share (a .offset) (a .size) (b .offset) (b .size)) e
+sibling-apart : (e : ℕ) (a b : Region) → clashBelow e a b ≡ false
+    → (a .parent ≡ 0 → ⊥) → a .parent ≡ b .parent → priorityOf a ≡ priorityOf b → ApartBelow e (a .offset) (a .size) (b .offset) (b .size)
+sibling-apart e a b h x y z =
+    apart-below e (a .offset) (a .size) (b .offset) (b .size)
+    (and-right (siblings a b && eqb (priorityOf a) (priorityOf b)) (shareBelow e (a .offset) (a .size) (b .offset) (b .size)) h
     (and-true (siblings a b) (eqb (priorityOf a) (priorityOf b))
     (and-true (not (eqb (a .parent) 0)) (eqb (a .parent) (b .parent)) (not-eqb (a .parent) 0 x) (eq-eqb (a .parent) (b .parent) y))
     (eq-eqb (priorityOf a) (priorityOf b) z)))
 
-apart-siblings : (a b : Region)
-    → ((a .parent ≡ 0 → ⊥) → a .parent ≡ b .parent → priorityOf a ≡ priorityOf b → Apart (a .offset) (a .size) (b .offset) (b .size))
-    → (siblings a b && eqb (priorityOf a) (priorityOf b) && share (a .offset) (a .size) (b .offset) (b .size)) ≡ false
-apart-siblings a b h =
+apart-siblings : (e : ℕ) (a b : Region)
+    → ((a .parent ≡ 0 → ⊥) → a .parent ≡ b .parent → priorityOf a ≡ priorityOf b → ApartBelow e (a .offset) (a .size) (b .offset) (b .size))
+    → clashBelow e a b ≡ false
+apart-siblings e a b h =
     let x = not (eqb (a .parent) 0) in
     let y = eqb (a .parent) (b .parent) in
     let z = eqb (priorityOf a) (priorityOf b) in
-    and-no (siblings a b && z) (share (a .offset) (a .size) (b .offset) (b .size)) (λ p q.
+    and-no (siblings a b && z) (shareBelow e (a .offset) (a .size) (b .offset) (b .size)) (λ p q.
     let s = and-fst (siblings a b) z p in
     never
     (sym q
-    ∙ not-shared (a .offset) (a .size) (b .offset) (b .size)
+    ∙ not-shared-below e (a .offset) (a .size) (b .offset) (b .size)
     (h (eqb-false (a .parent) 0 (not-true (eqb (a .parent) 0) (and-fst x y s))) (eqb-true (a .parent) (b .parent) (and-snd x y s))
     (eqb-true (priorityOf a) (priorityOf b) (and-snd (siblings a b) z p)))))
 
@@ -325,7 +337,7 @@ module _ (m : RegionMap) (memory : ℕ) where
         bytes = λ i j a b. memory-apart (region m i) (region m j) (p .bytes i j a b);
         single = λ i j a b. managed-once (region m i) (region m j) (p .single i j a b);
         ports = λ i j a b. port-once (region m i) (region m j) (p .ports i j a b);
-        siblings = λ i j a b. sibling-apart (region m i) (region m j) (p .siblings i j a b);
+        siblings = λ i j a b. sibling-apart (region m (parentOf (region m i)) .size) (region m i) (region m j) (p .siblings i j a b);
       }
 
   -- and that nothing is refused where it holds
@@ -341,7 +353,7 @@ module _ (m : RegionMap) (memory : ℕ) where
         bytes = λ i j a b. apart-memory (region m i) (region m j) (s .bytes i j a b);
         single = λ i j a b. once-managed (region m i) (region m j) (s .single i j a b);
         ports = λ i j a b. once-port (region m i) (region m j) (s .ports i j a b);
-        siblings = λ i j a b. apart-siblings (region m i) (region m j) (s .siblings i j a b);
+        siblings = λ i j a b. apart-siblings (region m (parentOf (region m i)) .size) (region m i) (region m j) (s .siblings i j a b);
       }
     where
       last : (n : ℕ) → (eqb (n + 1) (m .count) && rootFault (region m n)) ≡ false

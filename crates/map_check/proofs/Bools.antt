@@ -1,5 +1,5 @@
 -- Laws of tests: those that say the same, of two ranges without a sum, and of parts of a test. Assumes nothing.
-use mathlib.Core.Path.{_≡_, refl, sym, ap₂}
+use mathlib.Core.Path.{_≡_, refl, sym, ap₂, _∙_}
 use mathlib.Core.Bool.{Bool, true, false, _&&_, _||_, not}
 use Prim.Native.Nat.{ℕ, _+_, _-_, _≤_, _<_, max}
 use native.Mathlib.Omega.{arith}
@@ -34,6 +34,15 @@ share-above a s b t h =
     ap₂ _&&_ (ltb-same 0 s (max a b) (a + s) (λ p. omega arith) (λ p. omega arith))
     (ltb-same (a - b) t (max a b) (b + t) (λ p. omega arith) (λ p. omega arith))
 
+-- two numbers lie below e exactly when the larger one does
+pub both-below : (e a b : ℕ) → (ltb a e && ltb b e) ≡ ltb (max a b) e
+both-below e a b = go (ltb a e) (ltb b e) refl refl
+  where
+    go : (x y : Bool) → ltb a e ≡ x → ltb b e ≡ y → (x && y) ≡ ltb (max a b) e
+    go true true p q = let l = ltb-true a e p in let h = ltb-true b e q in sym (lt-ltb (max a b) e (omega arith))
+    go true false p q = let h = ltb-false b e q in sym (le-ltb (max a b) e (omega arith))
+    go false y p q = let l = ltb-false a e p in sym (le-ltb (max a b) e (omega arith))
+
 -- of tests that are false
 pub or-left : (a b : Bool) → (a || b) ≡ false → a ≡ false
 or-left true b e = e
@@ -54,6 +63,10 @@ none-of-4 a b c d e =
 pub and-right : (a b : Bool) → (a && b) ≡ false → a ≡ true → b ≡ false
 and-right true b e t = e
 and-right false b e t = absurd (let z : _≡_ {A = ℕ} 0 1 = cc in omega arith)
+
+pub and-left : (a b : Bool) → (a && b) ≡ false → b ≡ true → a ≡ false
+and-left true b e t = sym t ∙ e
+and-left false b e t = refl
 
 pub and-no : (a b : Bool) → (a ≡ true → b ≡ true → ⊥) → (a && b) ≡ false
 and-no true true h = absurd (h refl refl)

@@ -1,6 +1,7 @@
 pub mod Accepted
 pub mod Answers
 pub mod Bools
+mod ClashLaws
 mod FaultLaws
 mod First
 mod Found

@@ -3,13 +3,17 @@ use mathlib.Core.Bool.{Bool, cond, _&&_, not}
 use Prim.Native.Nat.{ℕ, _+_, max}
 use lib.Dec.{eqb, ltb}
 use Rattle.map_records.specs.Map.{mmio, managed, region}
-use Rattle.map_check.specs.Fault.{backed}
+use Rattle.map_check.specs.Fault.{parentOf, backed}
 use Rattle.map_records.specs.declared.map.Region.{Region}
 use Rattle.map_records.specs.declared.map.RegionMap.{RegionMap}
 
 -- [a, a + s) and [b, b + t) share a number: the larger start lies in both
 abbrev pub share : ℕ → ℕ → ℕ → ℕ → Bool
 share a s b t = ltb (max a b) (a + s) && ltb (max a b) (b + t)
+
+-- they share a number below e: the lowest that they share, the larger start, lies there
+abbrev pub shareBelow : ℕ → ℕ → ℕ → ℕ → ℕ → Bool
+shareBelow e a s b t = share a s b t && ltb (max a b) e
 
 -- 'The tree': priority field 0 means priority 0, f from 1 to 255 means f - 128. This is the priority + 128, whose order and equality are the priority's.
 abbrev pub priorityOf : Region → ℕ
@@ -31,8 +35,10 @@ portClash a b = eqb (a .kind) mmio && eqb (b .kind) mmio && eqb (a .port) (b .po
 abbrev pub siblings : Region → Region → Bool
 siblings a b = not (eqb (a .parent) 0) && eqb (a .parent) (b .parent)
 
--- 11: 'two children of one parent, of equal priority, whose ranges share an address'
+-- 11: 'two children of one parent, of equal priority, whose ranges share an address', with document 02's Req 02, 'below their parent's size', which is e
+abbrev pub clashBelow : ℕ → Region → Region → Bool
+clashBelow e a b = siblings a b && eqb (priorityOf a) (priorityOf b) && shareBelow e (a .offset) (a .size) (b .offset) (b .size)
+
+-- 11 for regions i and j. 7 comes first, so their parent is a region of the map; a number that no map has room for reads as one of size 0.
 unfoldable pub siblingClash : RegionMap → ℕ → ℕ → Bool
-siblingClash m i j =
-    siblings (region m i) (region m j) && eqb (priorityOf (region m i)) (priorityOf (region m j))
-    && share (region m i .offset) (region m i .size) (region m j .offset) (region m j .size)
+siblingClash m i j = clashBelow (region m (parentOf (region m i)) .size) (region m i) (region m j)

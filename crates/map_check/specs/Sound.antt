@@ -9,9 +9,13 @@ use Rattle.map_records.specs.declared.map.Region.{Region}
 use Rattle.map_records.specs.declared.map.RegionMap.{RegionMap}
 use Rattle.map_records.specs.declared.map.Field.{Field}
 
--- no number lies in [a, a + s) and in [b, b + t)
+-- no number below e lies in [a, a + s) and in [b, b + t)
+abbrev pub ApartBelow : ℕ → ℕ → ℕ → ℕ → ℕ → Type 0
+ApartBelow e a s b t = (x : ℕ) → x < e → a ≤ x → x < a + s → b ≤ x → x < b + t → ⊥
+
+-- no number does, however large
 abbrev pub Apart : ℕ → ℕ → ℕ → ℕ → Type 0
-Apart a s b t = (x : ℕ) → a ≤ x → x < a + s → b ≤ x → x < b + t → ⊥
+Apart a s b t = (e : ℕ) → ApartBelow e a s b t
 
 -- 6: the values of one region
 pub record Bounded (r : Region) : Type 0 where
@@ -53,4 +57,4 @@ pub record Sound (m : RegionMap) (memory : ℕ) : Type 0 where
   pub ports : (i j : ℕ) → i < j → j < m .count → region m i .kind ≡ mmio → region m j .kind ≡ mmio → region m i .port ≡ region m j .port → ⊥
   pub siblings : (i j : ℕ) → i < j → j < m .count → (region m i .parent ≡ 0 → ⊥) → region m i .parent ≡ region m j .parent
       → priorityOf (region m i) ≡ priorityOf (region m j)
-      → Apart (region m i .offset) (region m i .size) (region m j .offset) (region m j .size)
+      → ApartBelow (region m (parentOf (region m i)) .size) (region m i .offset) (region m i .size) (region m j .offset) (region m j .size)

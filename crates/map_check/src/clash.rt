@@ -1,15 +1,18 @@
 // The rules of document 01 over two regions.
 ghost use mathlib.Core.Path.{_≡_};
 ghost use Prim.Native.Nat.{_<_};
+ghost use Rattle.map_records.specs.Map.{region};
 ghost use Rattle.map_records.specs.Words.{mapOf};
 ghost use lib.ListN.{length};
 ghost use Rattle.map_check.specs.Clash.{share as shareOf, siblings as siblingsOf};
-ghost use Rattle.map_check.specs.Clash.{memoryClash, managedClash, portClash, siblingClash};
+ghost use Rattle.map_check.specs.Clash.{memoryClash, managedClash, portClash, clashBelow};
 ghost use Rattle.map_check.specs.Contracts.{clash};
+ghost use Rattle.map_check.specs.Fault.{parentOf};
 use crate::priority::priority_of;
 use map_records::map::MANAGED;
 use map_records::map::MMIO;
 use map_records::map::RAM;
+use map_records::map::REGIONS;
 use map_records::map::Region;
 use map_records::words::region_at;
 
@@ -57,13 +60,38 @@ fn siblings(a: Region, b: Region) -> bool
     !(a.parent == 0) & (a.parent == b.parent)
 }
 
-fn sibling_clash(map: &[u64], i: usize, j: usize) -> bool
-    requires { ⌜ (length (now map) ≡ 289) × (i < 32) × (j < 32) ⌝ }
-    ensures { λ r. ⌜ r ≡ siblingClash (mapOf (now (map .entry))) i j ⌝ }
+// The number of a region's parent; 0 where it has none.
+fn parent_of(r: Region) -> usize
+    ensures { λ n. ⌜ n ≡ parentOf r ⌝ }
 {
-    let a = region_at(map, i);
-    let b = region_at(map, j);
-    siblings(a, b) & (priority_of(a) == priority_of(b)) & share(a.offset, a.size, b.offset, b.size)
+    if r.parent == 0 {
+        return 0;
+    }
+    r.parent - 1
+}
+
+// The size of region n, and 0 where a map has no room for such a region.
+fn size_of(map: &[u64], n: usize) -> u64
+    requires { ⌜ length (now map) ≡ 289 ⌝ }
+    ensures { λ r. ⌜ r ≡ region (mapOf (now (map .entry))) n .size ⌝ }
+{
+    if n < REGIONS {
+        let r = region_at(map, n);
+        return r.size;
+    }
+    0
+}
+
+// The lowest address that two children share is the larger of their offsets. Only those below their parent's size are
+// ever asked of them.
+fn sibling_clash(map: &[u64], a: Region, b: Region) -> bool
+    requires { ⌜ length (now map) ≡ 289 ⌝ }
+    ensures { λ r. ⌜ r ≡ clashBelow (region (mapOf (now (map .entry))) (parentOf a) .size) a b ⌝ }
+{
+    let end = size_of(map, parent_of(a));
+    let below = (a.offset < end) & (b.offset < end);
+    let shared = share(a.offset, a.size, b.offset, b.size) & below;
+    siblings(a, b) & (priority_of(a) == priority_of(b)) & shared
 }
 
 // Do regions i and j clash by the rule?
@@ -77,6 +105,6 @@ pub fn clashes(map: &[u64], rule: PairRule, i: usize, j: usize) -> bool
         PairRule::Memory => memory_clash(a, b),
         PairRule::Managed => managed_clash(a, b),
         PairRule::Ports => port_clash(a, b),
-        PairRule::Siblings => sibling_clash(map, i, j),
+        PairRule::Siblings => sibling_clash(map, a, b),
     }
 }

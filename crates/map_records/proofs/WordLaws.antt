@@ -5,7 +5,7 @@ use mathlib.Core.List.{List, [], _∷_, append-nil}
 use Prim.Native.Nat.{ℕ, zero, suc, _+_, _*_, _≤_, _<_}
 use native.Mathlib.Nat.{add-zero}
 use native.Mathlib.Omega.{arith}
-use lib.ListN.{length, set, getD, replicate, length-replicate, length-set, drop-of-length-le}
+use lib.ListN.{length, set, getD, replicate, length-replicate, length-set, drop-of-length-le, List·getD-eq-default}
 use lib.Seq.{sets, drop-cons, length-sets, getD-set-same, getD-set-other}
 use borrow.Author.Tests.{eq-eqb, ne-eqb}
 use Rattle.map_records.specs.Map.{noRegion, region, emptyMap}
@@ -81,6 +81,11 @@ module _ (w : List ℕ) (size : length w ≡ 289) where
 
   pub region-words : (k : ℕ) → k < 32 → region (mapOf w) k ≡ regionAt w (1 + 9 * k)
   region-words k h = ap (λ (m : RegionMap). region m k) map-words ∙ group-at regions-grouped w 1 32 k noRegion h
+
+  pub region-past : (k : ℕ) → 32 ≤ k → region (mapOf w) k ≡ noRegion
+  region-past k h =
+      ap (λ (m : RegionMap). region m k) map-words
+      ∙ List·getD-eq-default (eachAt regionAt 9 w 1 32) noRegion {n = k} (omega (arith, groups-length regions-grouped w 1 32))
 
   -- the words of the map are the words that stand for it
   pub map-back : mapWords (mapOf w) ≡ w

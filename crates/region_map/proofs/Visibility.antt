@@ -1,5 +1,5 @@
--- The walk keeps source 001's rules of visibility at every region of an accepted map, and is the only one that does. Assumes nothing.
-use mathlib.Core.Path.{_≡_, refl, sym, ap, _∙_}
+-- The walk keeps source 001's rules of visibility at every region of an accepted map, and is the only one that does; there of two children of equal priority at most one holds an address. Assumes nothing.
+use mathlib.Core.Path.{_≡_, refl, sym, ap, subst, _∙_}
 use mathlib.Core.Bool.{Bool, true, false, _&&_, cond}
 use mathlib.Core.Logic.{⊎-elim}
 use Prim.Native.Nat.{ℕ, zero, suc, _+_, _-_, _%_, _≤_, _<_}
@@ -12,7 +12,7 @@ use Rattle.map_records.specs.Map.{alias, region}
 use Rattle.map_check.specs.Clash.{priorityOf}
 use Rattle.map_check.specs.Check.{Accepted}
 use Rattle.map_check.specs.Sound.{Sound}
-use Rattle.region_map.specs.Visibility.{Holding, childAnswer, Visible}
+use Rattle.region_map.specs.Visibility.{Holding, OneHolder, childAnswer, Visible}
 use Rattle.region_map.specs.Walk.{rank, child, ranked, orElse, holds, asked, own, answer, tried, walkBelow, walk}
 use Rattle.map_records.specs.declared.map.RegionMap.{RegionMap}
 use Rattle.map_records.specs.declared.map.RegionOffset.{RegionOffset}
@@ -77,6 +77,22 @@ module _ (m : RegionMap) (n a j : ℕ) where
       rw (← e, is-ranked m n c (h .below) l (h .parent), rank-mod m c l, le-leb (region m c .offset) a (h .from), lt-ltb a (region m c .offset + region m c .size) (h .to))
       (walk-below m n c (a - region m c .offset) (h .below))
 
+-- of two children of equal priority at most one holds an address that the parent has
+pub one-holder : (m : RegionMap) (memory : ℕ) → Accepted m memory → (n a : ℕ) → n < m .count → a < region m n .size → OneHolder m n a
+one-holder m memory ok n a known inside c e p q same = go (decLt c e) (decLt e c)
+  where
+    never-both : (i j : ℕ) → i < j → Holding m n a i → Holding m n a j → priorityOf (region m i) ≡ priorityOf (region m j) → ⊥
+    never-both i j less h g equal =
+        let parent : n ≡ region m i .parent - 1 = omega (arith, h .parent) in
+        let top : j < m .count = omega (arith, g .below) in
+        accepted-sound m memory ok .siblings i j less top (λ z. omega (arith, h .parent, z)) (h .parent ∙ sym (g .parent)) equal a
+        (subst (λ (k : ℕ). a < region m k .size) parent inside) (h .from) (h .to) (g .from) (g .to)
+
+    go : Dec (c < e) → Dec (e < c) → c ≡ e
+    go (yes l) d = absurd (never-both c e l p q same)
+    go (no l) (yes g) = absurd (never-both e c g q p (sym same))
+    go (no l) (no g) = omega arith
+
 module _ (m : RegionMap) (memory : ℕ) (ok : Accepted m memory) (n a : ℕ) (known : n < m .count) (kind : region m n .kind ≡ alias → ⊥) (inside : a < region m n .size) where
   s : Sound m memory
   s = accepted-sound m memory ok
@@ -98,7 +114,7 @@ module _ (m : RegionMap) (memory : ℕ) (ok : Accepted m memory) (n a : ℕ) (kn
           let top : e < m .count = omega (arith, q .below) in
           let same : priorityOf (region m c) ≡ priorityOf (region m e) = omega arith in
           let less : c < e = omega arith in
-          absurd (s .siblings c e less top (λ z. let y : n + 1 ≡ 0 = sym (p .parent) ∙ z in omega arith) (p .parent ∙ sym (q .parent)) same a (p .from) (p .to) (q .from) (q .to))
+          absurd (omega (arith, one-holder m memory ok n a known inside c e p q same))
 
   -- 'in descending priority order': a child that answers wins, where every child of a higher priority that holds the address answers nothing
   child-wins : (c k : ℕ) (o : RegionOffset) → Holding m n a c → childAnswer m (walk m) a c ≡ At k o

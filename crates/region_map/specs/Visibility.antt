@@ -16,6 +16,10 @@ pub record Holding (m : RegionMap) (n a c : ℕ) : Type 0 where
   pub from : region m c .offset ≤ a
   pub to : a < region m c .offset + region m c .size
 
+-- 11 at an address that n has: of two children of equal priority at most one holds it, so that 'highest priority first' leaves no choice
+abbrev pub OneHolder : RegionMap → ℕ → ℕ → Type 0
+OneHolder m n a = (c e : ℕ) → Holding m n a c → Holding m n a e → priorityOf (region m c) ≡ priorityOf (region m e) → c ≡ e
+
 -- what such a child answers, 'walked with address - offset'
 abbrev pub childAnswer : RegionMap → (ℕ → ℕ → Resolved) → ℕ → ℕ → Resolved
 childAnswer m walked a c = walked c (a - region m c .offset)

@@ -8,7 +8,7 @@ use Rattle.map_records.specs.declared.map.RegionMap.{RegionMap}
 use Rattle.region_map.specs.declared.resolve.Resolved.{Resolved}
 use Rattle.region_map.specs.declared.resolve.Resolved.the-variants.{Nothing, At}
 
--- The order of children: by priority, and among equal priorities by number. Equal priorities never share an address in an accepted map, so there the numbers settle nothing.
+-- The order of children: by priority, and among equal priorities by number. In an accepted map equal priorities never share an address that the parent has, and no other is searched, so there the numbers settle nothing.
 unfoldable pub rank : RegionMap → ℕ → ℕ
 rank m c = priorityOf (region m c) * 32 + c
 

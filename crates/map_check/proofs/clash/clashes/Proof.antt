@@ -1,4 +1,5 @@
 -- `map_check::clash::clashes` meets its contract. Assumes nothing.
+use Rattle.map_check.specs.Clash.{siblingClash}
 use borrow.Author.Needs.{needs}
 use Rattle.map_check.proofs.clash.clashes.Statement.{statement}
 use Rattle.map_check.proofs.clash.clashes.Tie as tie
@@ -13,7 +14,8 @@ returns-3 : tie.Need-returns-3
 returns-3 c = rw (c .before .enum-told3 .given .1, ← c .before .before .before .before .region-at .ensures, ← c .before .before .before .region-at2 .ensures) (c .port-clash .ensures)
 
 returns-4 : tie.Need-returns-4
-returns-4 c = rw (c .before .enum-told4 .given .1) (c .sibling-clash .ensures)
+unfolding siblingClash
+returns-4 c = rw (c .before .enum-told4 .given .1, ← c .before .before .before .before .region-at .ensures, ← c .before .before .before .region-at2 .ensures) (c .sibling-clash .ensures)
 
 pub clashes-spec : {M : Type 1} → statement M
 clashes-spec =
