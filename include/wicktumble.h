@@ -37,10 +37,10 @@
 /* The version of this header and of the library that belongs to it. MAJOR goes up when a host that was written for the
  * header before it may have to be changed: a call is gone or takes or does something else, a word or byte of a record
  * has moved, a number means something else or a call can refuse with one more. MINOR goes up when calls or names are
- * added, and such a host need only be compiled again, or not even that. PATCH goes up when nothing that a host can
- * rely on is different. What went up sets those after it to 0. */
+ * added or a number is given less often, and such a host need only be compiled again, or not even that. PATCH goes up
+ * when nothing that a host can rely on is different. What went up sets those after it to 0. */
 #define WT_VERSION_MAJOR 1
-#define WT_VERSION_MINOR 0
+#define WT_VERSION_MINOR 1
 #define WT_VERSION_PATCH 0
 
 /* What a call returns: docs/REFUSALS.md. */

@@ -6,7 +6,7 @@
 #![allow(dead_code, non_snake_case)]
 
 pub const WT_VERSION_MAJOR: u64 = 1;
-pub const WT_VERSION_MINOR: u64 = 0;
+pub const WT_VERSION_MINOR: u64 = 1;
 pub const WT_VERSION_PATCH: u64 = 0;
 
 // What a call returns: docs/REFUSALS.md.
