@@ -619,7 +619,7 @@ fn slices(r: &mut Rng) -> (Vec<Node>, u64) {
 /// How two children of equal priority lie at the end of their parent.
 #[derive(Clone, Copy, PartialEq)]
 enum Meeting {
-    /// They share addresses, all of them past the end.
+    /// They share addresses, none of them below the end.
     Beyond,
     /// One begins at the end, inside the other.
     AtTheEnd,

@@ -196,7 +196,7 @@ sibling-apart e a b h x y z =
     (and-true (not (eqb (a .parent) 0)) (eqb (a .parent) (b .parent)) (not-eqb (a .parent) 0 x) (eq-eqb (a .parent) (b .parent) y))
     (eq-eqb (priorityOf a) (priorityOf b) z)))
 
-apart-siblings : (e : ℕ) (a b : Region)
+pub apart-siblings : (e : ℕ) (a b : Region)
     → ((a .parent ≡ 0 → ⊥) → a .parent ≡ b .parent → priorityOf a ≡ priorityOf b → ApartBelow e (a .offset) (a .size) (b .offset) (b .size))
     → clashBelow e a b ≡ false
 apart-siblings e a b h =

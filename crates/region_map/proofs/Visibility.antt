@@ -1,4 +1,4 @@
--- The walk keeps source 001's rules of visibility at every region of an accepted map, and is the only one that does; there of two children of equal priority at most one holds an address. Assumes nothing.
+-- The walk keeps source 001's rules of visibility at every region of an accepted map, and is the only one that does; and 11 lets pass exactly the maps in which of two children of equal priority at most one holds an address. Assumes nothing.
 use mathlib.Core.Path.{_≡_, refl, sym, ap, subst, _∙_}
 use mathlib.Core.Bool.{Bool, true, false, _&&_, cond}
 use mathlib.Core.Logic.{⊎-elim}
@@ -9,9 +9,10 @@ use native.Mathlib.Omega.{arith}
 use lib.Dec.{eqb, leb, ltb}
 use borrow.Author.Tests.{eqb-true, leb-true, ltb-true, le-leb, lt-ltb}
 use Rattle.map_records.specs.Map.{alias, region}
-use Rattle.map_check.specs.Clash.{priorityOf}
+use Rattle.map_check.specs.Fault.{parentOf}
+use Rattle.map_check.specs.Clash.{priorityOf, siblingClash}
 use Rattle.map_check.specs.Check.{Accepted}
-use Rattle.map_check.specs.Sound.{Sound}
+use Rattle.map_check.specs.Sound.{Parented, Sound}
 use Rattle.region_map.specs.Visibility.{Holding, OneHolder, childAnswer, Visible}
 use Rattle.region_map.specs.Walk.{rank, child, ranked, orElse, holds, asked, own, answer, tried, walkBelow, walk}
 use Rattle.map_records.specs.declared.map.RegionMap.{RegionMap}
@@ -19,7 +20,7 @@ use Rattle.map_records.specs.declared.map.RegionOffset.{RegionOffset}
 use Rattle.region_map.specs.declared.resolve.Resolved.{Resolved}
 use Rattle.region_map.specs.declared.resolve.Resolved.the-variants.{Nothing, At}
 use Rattle.map_check.proofs.Bools.{and-fst, and-snd}
-use Rattle.map_check.proofs.Accepted.{accepted-sound, accepted-walkable}
+use Rattle.map_check.proofs.Accepted.{apart-siblings, accepted-sound, accepted-walkable}
 use Rattle.region_map.proofs.WalkLaws.{rank-mod, is-ranked, walk-below, walk-inside, walk-alias, past, priority-le}
 
 module _ (m : RegionMap) (u : ℕ → ℕ → Resolved) (n a : ℕ) where
@@ -92,6 +93,22 @@ one-holder m memory ok n a known inside c e p q same = go (decLt c e) (decLt e c
     go (yes l) d = absurd (never-both c e l p q same)
     go (no l) (yes g) = absurd (never-both e c g q p (sym same))
     go (no l) (no g) = omega arith
+
+-- and back: where parents are as 7 wants them and that holds at every address of every region, no two children clash
+pub holders-apart : (m : RegionMap) → ((n : ℕ) → n < m .count → (region m n .parent ≡ 0 → ⊥) → Parented m n)
+    → ((n a : ℕ) → n < m .count → a < region m n .size → OneHolder m n a) → (i j : ℕ) → i < j → j < m .count → siblingClash m i j ≡ false
+unfolding siblingClash
+holders-apart m parents holders i j less known =
+    let n = parentOf (region m i) in
+    apart-siblings (region m n .size) (region m i) (region m j) (λ some same equal x inside p q r w.
+    let up = parents i (omega arith) some in
+    let other = parents j known (λ z. some (same ∙ z)) in
+    let here : region m i .parent ≡ n + 1 = omega (arith, up .above) in
+    let above = up .above in
+    let below : j < n = omega (arith, other .above, same) in
+    let c : Holding m n x i = record { below = above; parent = here; from = p; to = q } in
+    let e : Holding m n x j = record { below = below; parent = sym same ∙ here; from = r; to = w } in
+    omega (arith, holders n x (up .below) inside i j c e equal))
 
 module _ (m : RegionMap) (memory : ℕ) (ok : Accepted m memory) (n a : ℕ) (known : n < m .count) (kind : region m n .kind ≡ alias → ⊥) (inside : a < region m n .size) where
   s : Sound m memory
