@@ -36,11 +36,11 @@
 
 /* The version of this header and of the library that belongs to it. MAJOR goes up when a host that was written for the
  * header before it may have to be changed: a call is gone or takes or does something else, a word or byte of a record
- * has moved, a number means something else or a call can refuse with one more. MINOR goes up when calls or names are
- * added or a number is given less often, and such a host need only be compiled again, or not even that. PATCH goes up
- * when nothing that a host can rely on is different. What went up sets those after it to 0. */
-#define WT_VERSION_MAJOR 1
-#define WT_VERSION_MINOR 1
+ * has moved or means something else, or a number does, or a call can refuse with one more. MINOR goes up when calls or
+ * names are added or a number is given less often, and such a host need only be compiled again, or not even that. PATCH
+ * goes up when nothing that a host can rely on is different. What went up sets those after it to 0. */
+#define WT_VERSION_MAJOR 2
+#define WT_VERSION_MINOR 0
 #define WT_VERSION_PATCH 0
 
 /* What a call returns: docs/REFUSALS.md. */
@@ -92,7 +92,7 @@ enum wt_number {
 #define WT_REGION_PARENT 1       /* the parent's number + 1 */
 #define WT_REGION_OFFSET 2       /* in the parent */
 #define WT_REGION_SIZE 3
-#define WT_REGION_PRIORITY 4     /* 0: the default, priority 0; f from 1 to 255: priority f - 128 */
+#define WT_REGION_PRIORITY 4     /* 0: the default, -1 for MMIO and 0 for other kinds; f from 1 to 255: f - 128 */
 #define WT_REGION_MEMORY_START 5 /* RAM and managed */
 #define WT_REGION_PORT 6         /* MMIO */
 #define WT_REGION_TARGET 7       /* alias: a region's number */

@@ -5,8 +5,8 @@
 //! `cargo:rustc-link-search=DIR` from a build script, says where libwicktumble.a lies.
 #![allow(dead_code, non_snake_case)]
 
-pub const WT_VERSION_MAJOR: u64 = 1;
-pub const WT_VERSION_MINOR: u64 = 1;
+pub const WT_VERSION_MAJOR: u64 = 2;
+pub const WT_VERSION_MINOR: u64 = 0;
 pub const WT_VERSION_PATCH: u64 = 0;
 
 // What a call returns: docs/REFUSALS.md.

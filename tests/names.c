@@ -111,6 +111,10 @@ static void maps(void) {
     SAME(walk(0x3000), WT_DONE);
     SAME(result[WT_RESULT_OFFSET], 0x1000);
     make_map();
+    FIELD(DEVICE_REGISTERS, OFFSET) = 0; /* over the RAM, and both with the default: -1, below the RAM's 0 */
+    SAME(walk(0), WT_DONE);
+    SAME(result[WT_RESULT_REGION], RAM);
+    FIELD(DEVICE_REGISTERS, PRIORITY) = 128, WRONG(WT_REFUSED_OVERLAP, RAM, DEVICE_REGISTERS);
 }
 
 static void range_is(int n, uint64_t first, uint64_t last, uint64_t region, uint64_t offset, uint64_t kind, uint64_t base) {

@@ -374,7 +374,7 @@ fn part_priorities(r: &mut Rng, nodes: &mut [Node]) {
                 let (a, b) = (&nodes[i], &nodes[j]);
                 a.parent != 0
                     && a.parent == b.parent
-                    && priority(a.priority) == priority(b.priority)
+                    && priority(a) == priority(b)
                     && clash_below(nodes[a.parent as usize - 1].size, a, b)
             });
             if !clash {
@@ -383,6 +383,15 @@ fn part_priorities(r: &mut Rng, nodes: &mut [Node]) {
             nodes[j].priority = r.below(256);
         }
     }
+}
+
+/// A field that means this priority at this kind: 0 or the number where the priority is the default.
+fn field_for(r: &mut Rng, kind: u64, priority: i64) -> u64 {
+    let default = if kind == MMIO { -1 } else { 0 };
+    if priority == default && r.one_in(2) {
+        return 0;
+    }
+    (priority + 128) as u64
 }
 
 /// Leaves in a container, then levels of containers that show the one below several times: many runs,
@@ -682,15 +691,15 @@ fn parked(r: &mut Rng) -> (Vec<Node>, u64, Option<(u64, u64)>) {
     let unit = r.pick(&[1, 1, 16, 4096, 1 << 40]);
     let end = unit * (4 + r.below(16));
     let [first, second] = met(r, meeting, end);
-    let level = r.pick(&[0, 1, 127, 128, 129]);
-    let higher = 200 + r.below(56);
+    let level = r.pick(&[-127, -1, -1, 0, 0, 1]);
+    let higher = 72 + r.below(56) as i64;
     let third = match meeting {
         Meeting::Hidden => (r.below(end / 2), 2 * end, higher),
-        _ => (r.below(2 * end), 1 + r.below(end), r.pick(&[2, higher])),
+        _ => (r.below(2 * end), 1 + r.below(end), r.pick(&[-126, higher])),
     };
     let mut cards = vec![
         (first, level, true),
-        (second, if level == 0 { r.pick(&[0, 128]) } else { level }, true),
+        (second, level, true),
         ((third.0, third.1), third.2, false),
     ];
     let turn = r.below(3) as usize;
@@ -703,6 +712,7 @@ fn parked(r: &mut Rng) -> (Vec<Node>, u64, Option<(u64, u64)>) {
     let mut cursor = 0;
     for (i, ((offset, size), priority, meets)) in cards.into_iter().enumerate() {
         let kind = if meets { r.pick(&[RAM, MMIO, CONTAINER]) } else { r.pick(&[RAM, MMIO]) };
+        let priority = field_for(r, kind, priority);
         let mut card = Node { kind, parent: 4, offset, size, priority, ..Node::default() };
         match kind {
             RAM => {
@@ -756,6 +766,115 @@ fn parked(r: &mut Rng) -> (Vec<Node>, u64, Option<(u64, u64)>) {
     nodes.push(root);
     let clash = !matches!(meeting, Meeting::Beyond | Meeting::AtTheEnd);
     (nodes, cursor, clash.then_some((pair[0], pair[1])))
+}
+
+/// Two children that lie over each other: kind and field of each, and which of them shows where both answer,
+/// or none where they clash. Document 02's Req 07 by hand: no rule says here what a field means.
+#[rustfmt::skip]
+const DEFAULTS: &[(u64, u64, u64, u64, Option<usize>)] = &[
+    // A window that leaves its priority out loses to every other kind that does,
+    (MMIO, 0, RAM, 0, Some(1)), (MMIO, 0, MANAGED, 0, Some(1)), (MMIO, 0, ALIAS, 0, Some(1)), (MMIO, 0, CONTAINER, 0, Some(1)),
+    // and clashes with another window that does, and with any kind that says -1.
+    (MMIO, 0, MMIO, 0, None), (MMIO, 0, MMIO, 127, None),
+    (MMIO, 0, RAM, 127, None), (MMIO, 0, MANAGED, 127, None), (MMIO, 0, ALIAS, 127, None), (MMIO, 0, CONTAINER, 127, None),
+    // One below -1, and one above.
+    (MMIO, 0, MMIO, 126, Some(0)), (MMIO, 0, RAM, 126, Some(0)), (MMIO, 0, ALIAS, 126, Some(0)), (MMIO, 0, CONTAINER, 126, Some(0)),
+    (MMIO, 0, MMIO, 128, Some(1)), (MMIO, 0, RAM, 128, Some(1)), (MMIO, 0, ALIAS, 128, Some(1)), (MMIO, 0, CONTAINER, 128, Some(1)),
+    // A window that says its priority has it.
+    (MMIO, 128, RAM, 0, None), (MMIO, 128, MANAGED, 0, None), (MMIO, 128, ALIAS, 0, None), (MMIO, 128, CONTAINER, 0, None),
+    (MMIO, 127, RAM, 0, Some(1)), (MMIO, 129, RAM, 0, Some(0)), (MMIO, 1, MMIO, 0, Some(1)), (MMIO, 255, RAM, 0, Some(0)),
+    // All other kinds keep 0.
+    (RAM, 0, RAM, 0, None), (RAM, 0, RAM, 128, None), (RAM, 0, MANAGED, 0, None), (RAM, 0, ALIAS, 0, None), (RAM, 0, CONTAINER, 0, None),
+    (ALIAS, 0, ALIAS, 0, None), (ALIAS, 0, CONTAINER, 128, None), (CONTAINER, 0, MANAGED, 0, None), (MANAGED, 0, ALIAS, 128, None),
+    (RAM, 0, RAM, 127, Some(0)), (ALIAS, 0, RAM, 127, Some(0)), (CONTAINER, 0, RAM, 127, Some(0)), (MANAGED, 0, RAM, 127, Some(0)),
+    (RAM, 0, ALIAS, 129, Some(1)), (CONTAINER, 0, ALIAS, 129, Some(1)),
+];
+
+/// A map of two such children, the regions 2 and 3: of region 4, which is the root or shows in it.
+struct Defaults {
+    nodes: Vec<Node>,
+    memory_length: u64,
+    /// An address of the guest that both children hold.
+    shared: u64,
+    /// What the walk answers there, where the map is accepted.
+    answer: Option<Option<(u64, u64)>>,
+}
+
+/// Region 0 is what the first of the two shows where it is an alias or, up to a hole, a container; region 1 so
+/// for the second.
+fn defaults(r: &mut Rng) -> Defaults {
+    let (kind_a, field_a, kind_b, field_b, mut shows) = r.pick(DEFAULTS);
+    let mut sides = [(kind_a, field_a), (kind_b, field_b)];
+    if r.one_in(2) {
+        sides.swap(0, 1);
+        shows = shows.map(|side| 1 - side);
+    }
+    let unit = r.pick(&[1, 16, 4096, 1 << 40]);
+    let sizes = [unit * (1 + r.below(8)), unit * (1 + r.below(8))];
+    let from = unit * r.below(4);
+    let mut offsets = [from, from + r.below(sizes[0])];
+    if r.one_in(2) {
+        offsets = [from + r.below(sizes[1]), from];
+    }
+    let mut nodes = vec![Node::default(); 4];
+    let mut cursor = 0;
+    for i in 0..2 {
+        let (kind, priority) = sides[i];
+        let (offset, size) = (offsets[i], sizes[i]);
+        let mut child = Node { kind, parent: 5, offset, size, priority, ..Node::default() };
+        let mut inner = Node { kind: r.pick(&[RAM, MMIO]), size, ..Node::default() };
+        match kind {
+            CONTAINER => {
+                inner.parent = i as u64 + 3;
+                inner.size = 1 + r.below(size);
+            }
+            ALIAS => child.target = i as u64,
+            MMIO => child.port = i as u64,
+            _ => {
+                child.start = cursor;
+                cursor += size;
+            }
+        }
+        if inner.kind == MMIO {
+            inner.port = 2 + i as u64;
+        } else {
+            inner.start = cursor;
+            cursor += inner.size;
+        }
+        nodes[i] = inner;
+        nodes[i + 2] = child;
+    }
+    let end = (offsets[0] + sizes[0]).min(offsets[1] + sizes[1]);
+    let start = offsets[0].max(offsets[1]);
+    let mut shared = start + r.below(end - start);
+    let answer_of = |side: usize| {
+        let offset = shared - offsets[side];
+        match sides[side].0 {
+            ALIAS => Some((side as u64, offset)),
+            CONTAINER => (offset < nodes[side].size).then_some((side as u64, offset)),
+            _ => Some((side as u64 + 2, offset)),
+        }
+    };
+    let answer = shows.map(|side| answer_of(side).or(answer_of(1 - side)));
+    let size = end + unit * r.below(8);
+    nodes.push(Node { kind: CONTAINER, size, ..Node::default() });
+    if r.one_in(2) {
+        let offset = unit * r.below(8);
+        shared += offset;
+        nodes[4].parent = 6;
+        nodes[4].offset = offset;
+        nodes.push(Node { kind: CONTAINER, size: offset + size, ..Node::default() });
+    }
+    Defaults { nodes, memory_length: cursor, shared, answer }
+}
+
+/// "That map with field 127 at each MMIO node that has 0."
+fn written_out(nodes: &[Node]) -> Vec<Node> {
+    let mut nodes = nodes.to_vec();
+    for node in nodes.iter_mut().filter(|n| n.kind == MMIO && n.priority == 0) {
+        node.priority = 127;
+    }
+    nodes
 }
 
 /// Breaks a map in one to three places.
@@ -1011,36 +1130,53 @@ fn telling_address(r: &mut Rng, runs: &[Run]) -> u64 {
     base.wrapping_add(r.below(5)).wrapping_sub(2)
 }
 
-/// wt_walk on words 0 (map) and 1 (result), number 0 (memory length), at six telling addresses.
-fn walk_both(r: &mut Rng, tally: &mut Tally, state: &mut State) -> Result<(), String> {
+/// wt_walk on words 0 (map) and 1 (result), numbers 0 (memory length) and 1 (address).
+fn walk_both(tally: &mut Tally, state: &mut State) -> Result<u64, String> {
+    both(
+        tally,
+        "wt_walk",
+        state,
+        |s| {
+            let (n, a) = (s.n(0), s.n(1));
+            let (map, result) = s.w2(0, 1);
+            ffi::walk(map, n, a, result)
+        },
+        |s| {
+            let (n, a) = (s.n(0), s.n(1));
+            let (map, result) = s.w2(0, 1);
+            calls::walk(map, n, a, result)
+        },
+    )
+}
+
+/// Six addresses at which the walk through a state's map may change.
+fn telling_addresses(r: &mut Rng, state: &State) -> Vec<u64> {
     let nodes = model::check_map(&state.words[0].1[..MAP], state.n(0));
     let runs = nodes.map(|n| Tree::new(n).runs()).unwrap_or_default();
+    (0..6).map(|_| telling_address(r, &runs)).collect()
+}
+
+/// The walk at each of these; what the result says after it.
+fn walks_both(
+    tally: &mut Tally,
+    state: &mut State,
+    addresses: Vec<u64>,
+) -> Result<Vec<Vec<u64>>, String> {
     state.numbers.push(("address", 0));
-    for _ in 0..6 {
-        state.numbers[1].1 = telling_address(r, &runs);
-        both(
-            tally,
-            "wt_walk",
-            state,
-            |s| {
-                let (n, a) = (s.n(0), s.n(1));
-                let (map, result) = s.w2(0, 1);
-                ffi::walk(map, n, a, result)
-            },
-            |s| {
-                let (n, a) = (s.n(0), s.n(1));
-                let (map, result) = s.w2(0, 1);
-                calls::walk(map, n, a, result)
-            },
-        )?;
+    let mut told = Vec::new();
+    for address in addresses {
+        state.numbers[1].1 = address;
+        walk_both(tally, state)?;
+        told.push(state.words[1].1[..RESULT].to_vec());
     }
-    Ok(())
+    Ok(told)
 }
 
 fn walk_case(r: &mut Rng, tally: &mut Tally) -> Result<(), String> {
     let damaged = r.one_in(6);
     let mut state = map_state(r, damaged);
-    walk_both(r, tally, &mut state)
+    let addresses = telling_addresses(r, &state);
+    walks_both(tally, &mut state, addresses).map(|_| ())
 }
 
 /// wt_flatten on words 0 (map), 1 (view) and 2 (result), number 0 (memory length).
@@ -1090,9 +1226,66 @@ fn parked_case(r: &mut Rng, tally: &mut Tally) -> Result<(), String> {
     if !told {
         return Err(format!("{number} {result:?} where {clash:?} clash, of {nodes:#?}"));
     }
-    walk_both(r, tally, &mut state)?;
+    let addresses = telling_addresses(r, &state);
+    walks_both(tally, &mut state, addresses)?;
     state.words.insert(1, ("view", garbage(r, VIEW), VIEW));
     flatten_both(tally, &mut state).map(|_| ())
+}
+
+/// What check, walk and flatten tell of a map, with the number of the check first.
+type Told = (u64, Vec<Vec<u64>>);
+
+fn told_of(
+    tally: &mut Tally,
+    mut state: State,
+    addresses: Vec<u64>,
+    view: Vec<u64>,
+) -> Result<Told, String> {
+    let number = check_both(tally, &mut state)?;
+    let mut told = vec![state.words[1].1[..RESULT].to_vec()];
+    told.extend(walks_both(tally, &mut state, addresses)?);
+    state.words.insert(1, ("view", view, VIEW));
+    flatten_both(tally, &mut state)?;
+    told.push(state.words[1].1[..VIEW].to_vec());
+    told.push(state.words[2].1[..RESULT].to_vec());
+    Ok((number, told))
+}
+
+/// Children that leave their priority out. The answer where two meet is known from a table, whatever the
+/// model says; and a map is told as with the windows' default written out, in which the field means what
+/// document 01 says.
+fn defaults_case(r: &mut Rng, tally: &mut Tally) -> Result<(), String> {
+    let table = r.one_in(2).then(|| defaults(r));
+    let (nodes, memory_length) = match &table {
+        Some(case) => (case.nodes.clone(), case.memory_length),
+        None => random_map(r),
+    };
+    let (result, view) = (garbage(r, RESULT), garbage(r, VIEW));
+    let mut state_of = |nodes: &[Node]| State {
+        words: vec![
+            ("map", guarded(r, &map_words(nodes)), MAP),
+            ("result", result.clone(), RESULT),
+        ],
+        bytes: vec![],
+        numbers: vec![("memory_length", memory_length)],
+    };
+    let (state, plain) = (state_of(&nodes), state_of(&written_out(&nodes)));
+    let mut addresses = telling_addresses(r, &plain);
+    addresses[0] = table.as_ref().map_or(addresses[0], |case| case.shared);
+    let told = told_of(tally, state, addresses.clone(), view.clone())?;
+    if told != told_of(tally, plain, addresses, view)? {
+        return Err(format!("told otherwise with the default written out: {nodes:#?}"));
+    }
+    let Some(case) = table else { return Ok(()) };
+    let known = match case.answer {
+        None => (11, vec![2, 3, 0]),
+        Some(Some((node, offset))) => (0, vec![1, node, offset]),
+        Some(None) => (0, vec![0; 3]),
+    };
+    if (told.0, &told.1[1]) != (known.0, &known.1) {
+        return Err(format!("{told:?} where {known:?} is known, of {nodes:#?}"));
+    }
+    Ok(())
 }
 
 // -------------------------------------------------------------------------------- kind: set-up, host
@@ -2634,6 +2827,7 @@ const KINDS: &[&str] = &[
     "walk",
     "flatten",
     "parked",
+    "defaults",
     "set-up",
     "request",
     "route",
@@ -2652,13 +2846,14 @@ fn one(kind: usize, seed: u64, tally: &mut Tally, noise: &[u8]) -> Result<(), St
         2 => walk_case(r, tally),
         3 => flatten_case(r, tally),
         4 => parked_case(r, tally),
-        5 => host_case(r, tally),
-        6 => request_case(r, tally),
-        7 => route_case(r, tally).and_then(|()| route_all_case(r, tally)),
-        8 => look_up_case(r, tally),
-        9 => queue_case(r, tally),
-        10 => step_case(r, tally, noise),
-        11 => run_case(r, tally, noise),
+        5 => defaults_case(r, tally),
+        6 => host_case(r, tally),
+        7 => request_case(r, tally),
+        8 => route_case(r, tally).and_then(|()| route_all_case(r, tally)),
+        9 => look_up_case(r, tally),
+        10 => queue_case(r, tally),
+        11 => step_case(r, tally, noise),
+        12 => run_case(r, tally, noise),
         _ => self_case(r, noise),
     }
 }

@@ -98,12 +98,13 @@ pub fn map_words(nodes: &[Node]) -> Vec<u64> {
     words
 }
 
-/// "Priority field 0 means the default, priority 0; field f from 1 to 255 means f - 128."
-pub fn priority(field: u64) -> i64 {
-    if field == 0 {
-        0
-    } else {
-        field as i64 - 128
+/// "Priority field 0 means the default, priority 0; field f from 1 to 255 means f - 128." With document 02's
+/// Req 07: "For MMIO nodes a priority field of 0 now means -1; all other kinds keep 0."
+pub fn priority(node: &Node) -> i64 {
+    match node.priority {
+        0 if node.kind == MMIO => -1,
+        0 => 0,
+        field => field as i64 - 128,
     }
 }
 
@@ -266,7 +267,7 @@ pub fn check_nodes(nodes: &[Node], memory_length: u64) -> Result<(), Refusal> {
     pair(11, &|a, b| {
         a.parent != 0
             && a.parent == b.parent
-            && priority(a.priority) == priority(b.priority)
+            && priority(a) == priority(b)
             && clash_below(nodes[a.parent as usize - 1].size, a, b)
     })
 }
@@ -299,7 +300,7 @@ impl Tree {
             }
         }
         for list in &mut children {
-            list.sort_by_key(|&child| -priority(nodes[child].priority));
+            list.sort_by_key(|&child| -priority(&nodes[child]));
         }
         Tree { nodes, children }
     }

@@ -10,7 +10,7 @@ use Rattle.map_check.specs.Fault.{limit, parentOf, backed, kindFault, ex
 use Rattle.map_check.specs.Clash.{share, shareBelow, priorityOf, memoryClash, managedClash, portClash, siblings, clashBelow, siblingClash}
 use Rattle.map_check.specs.Reply.{Reply, accepted, nodes, place, plain, _then_, passes, lowest, firstPair}
 use Rattle.map_check.specs.Contracts.{Walkable}
-use Rattle.map_check.specs.Check.{judged, countFault, Accepted}
+use Rattle.map_check.specs.Check.{judgedBy, judged, countFault, Accepted}
 use Rattle.map_check.specs.Sound.{ApartBelow, Apart, Bounded, Parented, Rooted, Sound}
 use Rattle.map_records.specs.declared.map.Region.{Region}
 use Rattle.map_records.specs.declared.map.RegionMap.{RegionMap}
@@ -187,7 +187,7 @@ once-port a b h =
     and-no (x && y) (eqb (a .port) (b .port)) (λ p q.
     h (eqb-true (a .kind) mmio (and-fst x y p)) (eqb-true (b .kind) mmio (and-snd x y p)) (eqb-true (a .port) (b .port) q))
 
-sibling-apart : (e : ℕ) (a b : Region) → clashBelow e a b ≡ false
+sibling-apart : (e : ℕ) (a b : Region) → clashBelow priorityOf e a b ≡ false
     → (a .parent ≡ 0 → ⊥) → a .parent ≡ b .parent → priorityOf a ≡ priorityOf b → ApartBelow e (a .offset) (a .size) (b .offset) (b .size)
 sibling-apart e a b h x y z =
     apart-below e (a .offset) (a .size) (b .offset) (b .size)
@@ -198,7 +198,7 @@ sibling-apart e a b h x y z =
 
 pub apart-siblings : (e : ℕ) (a b : Region)
     → ((a .parent ≡ 0 → ⊥) → a .parent ≡ b .parent → priorityOf a ≡ priorityOf b → ApartBelow e (a .offset) (a .size) (b .offset) (b .size))
-    → clashBelow e a b ≡ false
+    → clashBelow priorityOf e a b ≡ false
 apart-siblings e a b h =
     let x = not (eqb (a .parent) 0) in
     let y = eqb (a .parent) (b .parent) in
@@ -222,7 +222,7 @@ module _ (m : RegionMap) (memory : ℕ) where
     bytes : (i j : ℕ) → i < j → j < m .count → memoryClash (region m i) (region m j) ≡ false
     single : (i j : ℕ) → i < j → j < m .count → managedClash (region m i) (region m j) ≡ false
     ports : (i j : ℕ) → i < j → j < m .count → portClash (region m i) (region m j) ≡ false
-    siblings : (i j : ℕ) → i < j → j < m .count → siblingClash m i j ≡ false
+    siblings : (i j : ℕ) → i < j → j < m .count → siblingClash priorityOf m i j ≡ false
 
   -- each rule's answer over the whole map, and the answers up to each
   abbrev on-3 : Reply
@@ -250,7 +250,7 @@ module _ (m : RegionMap) (memory : ℕ) where
   on-10 = firstPair 10 (λ i j. portClash (region m i) (region m j)) (m .count)
 
   abbrev on-11 : Reply
-  on-11 = firstPair 11 (λ i j. siblingClash m i j) (m .count)
+  on-11 = firstPair 11 (λ i j. siblingClash priorityOf m i j) (m .count)
 
   abbrev to-4 : Reply
   to-4 = on-3 then on-4
@@ -274,7 +274,7 @@ module _ (m : RegionMap) (memory : ℕ) where
   to-10 = to-9 then on-10
 
   passed : Accepted m memory → Passed
-  unfolding Accepted judged
+  unfolding Accepted judgedBy
   passed e =
       let e-10 = then-left to-10 on-11 e in
       let e-9 = then-left to-9 on-10 e-10 in
@@ -292,11 +292,11 @@ module _ (m : RegionMap) (memory : ℕ) where
         bytes = pair-all (λ i j. memoryClash (region m i) (region m j)) 8 (m .count) (then-right to-ends on-8 e-8);
         single = pair-all (λ i j. managedClash (region m i) (region m j)) 9 (m .count) (then-right to-8 on-9 e-9);
         ports = pair-all (λ i j. portClash (region m i) (region m j)) 10 (m .count) (then-right to-9 on-10 e-10);
-        siblings = pair-all (λ i j. siblingClash m i j) 11 (m .count) (then-right to-10 on-11 e);
+        siblings = pair-all (λ i j. siblingClash priorityOf m i j) 11 (m .count) (then-right to-10 on-11 e);
       }
 
   passed-accepted : Passed → Accepted m memory
-  unfolding Accepted judged
+  unfolding Accepted judgedBy
   passed-accepted p =
       then-both to-10 on-11
       (then-both to-9 on-10
@@ -312,7 +312,7 @@ module _ (m : RegionMap) (memory : ℕ) where
       (pair-none (λ i j. memoryClash (region m i) (region m j)) 8 (m .count) (λ i q j h l. p .bytes i j l h)))
       (pair-none (λ i j. managedClash (region m i) (region m j)) 9 (m .count) (λ i q j h l. p .single i j l h)))
       (pair-none (λ i j. portClash (region m i) (region m j)) 10 (m .count) (λ i q j h l. p .ports i j l h)))
-      (pair-none (λ i j. siblingClash m i j) 11 (m .count) (λ i q j h l. p .siblings i j l h))
+      (pair-none (λ i j. siblingClash priorityOf m i j) 11 (m .count) (λ i q j h l. p .siblings i j l h))
 
   -- what the passed rules say
   sound-of : Passed → Sound m memory

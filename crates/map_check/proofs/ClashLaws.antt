@@ -8,6 +8,6 @@ use Rattle.map_check.specs.Clash.{share, priorityOf, siblings, clashBelo
 use Rattle.map_check.proofs.Bools.{both-below}
 
 pub clash-offsets : (end : ℕ) (a b : Region)
-    → (siblings a b && eqb (priorityOf a) (priorityOf b) && (share (a .offset) (a .size) (b .offset) (b .size) && (ltb (a .offset) end && ltb (b .offset) end))) ≡ clashBelow end a b
+    → (siblings a b && eqb (priorityOf a) (priorityOf b) && (share (a .offset) (a .size) (b .offset) (b .size) && (ltb (a .offset) end && ltb (b .offset) end))) ≡ clashBelow priorityOf end a b
 clash-offsets end a b =
     ap (λ (x : Bool). siblings a b && eqb (priorityOf a) (priorityOf b) && (share (a .offset) (a .size) (b .offset) (b .size) && x)) (both-below end (a .offset) (b .offset))

@@ -61,6 +61,20 @@ module _ (f : ℕ → Reply) where
       (λ q. ap (λ (y : Reply). y then f n) (first-at n i x q e r s) ∙ s (f n))
       (eq-or-lt-of-le {n = i} {m = n} (omega arith))
 
+-- of two that answer alike below n
+pub first-same : (f g : ℕ → Reply) (n : ℕ) → ((i : ℕ) → i < n → f i ≡ g i) → first f n ≡ first g n
+unfolding first
+first-same f g zero h = refl
+first-same f g (suc n) h = rw (first-same f g n (λ i p. h i (omega arith)), h n (omega arith))
+
+pub lowest-same : (k : ℕ) (f g : ℕ → Bool) (n : ℕ) → ((i : ℕ) → i < n → f i ≡ g i) → lowest k f n ≡ lowest k g n
+unfolding lowest
+lowest-same k f g n h = first-same _ _ n (λ i p. ap (λ (b : Bool). cond b (nodes k i i) accepted) (h i p))
+
+pub pair-same : (k : ℕ) (f g : ℕ → ℕ → Bool) (n : ℕ) → ((i j : ℕ) → i < n → j < n → f i j ≡ g i j) → firstPair k f n ≡ firstPair k g n
+unfolding firstPair pairsOf
+pair-same k f g n h = first-same _ _ n (λ i p. first-same _ _ n (λ j q. ap (λ (b : Bool). cond (ltb i j && b) (nodes k i j) accepted) (h i j p q)))
+
 -- of a chosen refusal
 pub chosen : (b : Bool) (x : Reply) → b ≡ false → cond b x accepted ≡ accepted
 chosen b x e = rw e

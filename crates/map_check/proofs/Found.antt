@@ -4,7 +4,7 @@ use mathlib.Core.Bool.{Bool, true, false}
 use Prim.Native.Nat.{ℕ}
 use Rattle.map_check.specs.Reply.{accepted, nodes, _then_, lowest, firstPair}
 use Rattle.map_check.specs.Contracts.{clash, LowestIs, FirstIs, onRegions, onPairs}
-use Rattle.map_check.specs.Check.{countFault, judged}
+use Rattle.map_check.specs.Check.{countFault, judgedBy, judged}
 use Rattle.map_records.specs.declared.map.RegionMap.{RegionMap}
 use Rattle.map_check.specs.declared.clash.PairRule.the-variants as pair-rule
 use Rattle.map_check.specs.declared.search.Lowest.{Lowest}
@@ -29,11 +29,11 @@ module _ (f : ℕ → ℕ → Bool) (n : ℕ) (r : Pair) where
 
 module _ (m : RegionMap) (memory : ℕ) where
   pub judged-count : countFault (m .count) ≡ true → nodes 3 0 0 ≡ judged m memory
-  unfolding judged
+  unfolding judgedBy
   judged-count e = rw e
 
   pub judged-parts : countFault (m .count) ≡ false → judged m memory ≡ (onRegions m memory then onPairs m)
-  unfolding judged onRegions onPairs
+  unfolding judgedBy onRegions onPairs
   judged-parts e =
       rw e
       (then-four (onRegions m memory) (firstPair 8 (clash pair-rule.Memory m) (m .count)) (firstPair 9 (clash pair-rule.Managed m) (m .count))

@@ -3,7 +3,7 @@ pub mod Answers
 pub mod Bools
 mod ClashLaws
 mod FaultLaws
-mod First
+pub mod First
 mod Found
 pub mod MapWords
 pub mod Replies

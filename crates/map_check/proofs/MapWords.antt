@@ -9,12 +9,12 @@ use Rattle.map_records.specs.Words.{mapOf}
 use Rattle.map_records.proofs.Order.{eq-or-not}
 use Rattle.map_records.proofs.WordLaws.{map-other}
 use Rattle.map_check.specs.Reply.{Reply, accepted, nodes, place, plain}
-use Rattle.map_check.specs.Check.{judged, Accepted}
+use Rattle.map_check.specs.Check.{judgedBy, judged, Accepted}
 use Rattle.map_check.specs.Contracts.{Tree}
 use Rattle.map_check.proofs.Accepted.{accepted-sound, accepted-walkable}
 
 pub judged-other : (w : List ℕ) → (length w ≡ 289 → ⊥) → (memory : ℕ) → nodes 3 0 0 ≡ judged (mapOf w) memory
-unfolding judged
+unfolding judgedBy
 judged-other w other memory = rw (map-other w other)
 
 module _ (w : List ℕ) (memory : ℕ) (ok : Accepted (mapOf w) memory) where

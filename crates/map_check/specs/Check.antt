@@ -6,7 +6,8 @@ use lib.Dec.{eqb, ltb}
 use Rattle.map_records.specs.Map.{region}
 use Rattle.map_check.specs.Reply.{Reply, accepted, nodes, _then_, lowest, firstPair}
 use Rattle.map_check.specs.Fault.{kindFault, fieldFault, linkFault, memoryFault}
-use Rattle.map_check.specs.Clash.{memoryClash, managedClash, portClash, siblingClash}
+use Rattle.map_check.specs.Clash.{priorityOf, memoryClash, managedClash, portClash, siblingClash}
+use Rattle.map_records.specs.declared.map.Region.{Region}
 use Rattle.map_records.specs.declared.map.RegionMap.{RegionMap}
 use Rattle.map_check.specs.declared.check.MapAnswer.{MapAnswer}
 use Rattle.map_check.specs.declared.check.MapAnswer.the-variants as answer
@@ -27,9 +28,9 @@ reply (answer.Overlap i j) = nodes 11 i j
 abbrev pub countFault : ℕ → Bool
 countFault n = eqb n 0 || ltb 32 n
 
--- 'A call that is given a map repeats 3 (node 0 twice), 4 (the node twice) and 6 to 11', each over the whole map; 'in 8, ends past the memory come before pairs'
-unfoldable pub judged : RegionMap → ℕ → Reply
-judged m memory =
+-- 'A call that is given a map repeats 3 (node 0 twice), 4 (the node twice) and 6 to 11', each over the whole map; 'in 8, ends past the memory come before pairs'. 11 goes by what a region's priority is.
+unfoldable pub judgedBy : (Region → ℕ) → RegionMap → ℕ → Reply
+judgedBy priority m memory =
     cond (countFault (m .count)) (nodes 3 0 0) accepted
     then lowest 4 (λ n. kindFault (region m n .kind)) (m .count)
     then lowest 6 (λ n. fieldFault (region m n)) (m .count)
@@ -38,7 +39,11 @@ judged m memory =
     then firstPair 8 (λ i j. memoryClash (region m i) (region m j)) (m .count)
     then firstPair 9 (λ i j. managedClash (region m i) (region m j)) (m .count)
     then firstPair 10 (λ i j. portClash (region m i) (region m j)) (m .count)
-    then firstPair 11 (λ i j. siblingClash m i j) (m .count)
+    then firstPair 11 (λ i j. siblingClash priority m i j) (m .count)
+
+-- the check, with a priority's present meaning
+abbrev pub judged : RegionMap → ℕ → Reply
+judged = judgedBy priorityOf
 
 -- 'A map that 1 to 11 let pass is accepted'
 unfoldable pub Accepted : RegionMap → ℕ → Type 0

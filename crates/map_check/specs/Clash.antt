@@ -15,9 +15,16 @@ share a s b t = ltb (max a b) (a + s) && ltb (max a b) (b + t)
 abbrev pub shareBelow : ℕ → ℕ → ℕ → ℕ → ℕ → Bool
 shareBelow e a s b t = share a s b t && ltb (max a b) e
 
--- 'The tree': priority field 0 means priority 0, f from 1 to 255 means f - 128. This is the priority + 128, whose order and equality are the priority's.
+-- 'The tree': 'field f from 1 to 255 means f - 128', and 0 a default of the kind. This is the priority + 128, whose order and equality are the priority's.
+abbrev pub priorityWith : (ℕ → ℕ) → Region → ℕ
+priorityWith default r = cond (eqb (r .priority) 0) (default (r .kind)) (r .priority)
+
+-- Req 07: 'For MMIO nodes a priority field of 0 now means -1; all other kinds keep 0'
+abbrev pub defaultOf : ℕ → ℕ
+defaultOf kind = cond (eqb kind mmio) 127 128
+
 abbrev pub priorityOf : Region → ℕ
-priorityOf r = cond (eqb (r .priority) 0) 128 (r .priority)
+priorityOf = priorityWith defaultOf
 
 -- 8: 'two such ranges share a byte'
 abbrev pub memoryClash : Region → Region → Bool
@@ -35,10 +42,12 @@ portClash a b = eqb (a .kind) mmio && eqb (b .kind) mmio && eqb (a .port) (b .po
 abbrev pub siblings : Region → Region → Bool
 siblings a b = not (eqb (a .parent) 0) && eqb (a .parent) (b .parent)
 
--- 11: 'two children of one parent, of equal priority, whose ranges share an address', with document 02's Req 02, 'below their parent's size', which is e
-abbrev pub clashBelow : ℕ → Region → Region → Bool
-clashBelow e a b = siblings a b && eqb (priorityOf a) (priorityOf b) && shareBelow e (a .offset) (a .size) (b .offset) (b .size)
+-- by what a region's priority is, with 128 added
+module _ (priority : Region → ℕ) where
+  -- 11: 'two children of one parent, of equal priority, whose ranges share an address', with document 02's Req 02, 'below their parent's size', which is e
+  abbrev pub clashBelow : ℕ → Region → Region → Bool
+  clashBelow e a b = siblings a b && eqb (priority a) (priority b) && shareBelow e (a .offset) (a .size) (b .offset) (b .size)
 
--- 11 for regions i and j. 7 comes first, so their parent is a region of the map; a number that no map has room for reads as one of size 0.
-unfoldable pub siblingClash : RegionMap → ℕ → ℕ → Bool
-siblingClash m i j = clashBelow (region m (parentOf (region m i)) .size) (region m i) (region m j)
+  -- 11 for regions i and j. 7 comes first, so their parent is a region of the map; a number that no map has room for reads as one of size 0.
+  unfoldable pub siblingClash : RegionMap → ℕ → ℕ → Bool
+  siblingClash m i j = clashBelow (region m (parentOf (region m i)) .size) (region m i) (region m j)

@@ -8,7 +8,7 @@ use Rattle.map_records.specs.Map.{alias, region}
 use Rattle.map_records.specs.Words.{mapOf}
 use Rattle.map_check.specs.Reply.{Reply, accepted, nodes, _then_, lowest, firstPair}
 use Rattle.map_check.specs.Fault.{kindFault, fieldFault, linkFault, memoryFault}
-use Rattle.map_check.specs.Clash.{memoryClash, managedClash, portClash, siblingClash}
+use Rattle.map_check.specs.Clash.{priorityOf, memoryClash, managedClash, portClash, siblingClash}
 use Rattle.map_records.specs.declared.map.RegionMap.{RegionMap}
 use Rattle.map_check.specs.declared.fault.NodeRule.{NodeRule}
 use Rattle.map_check.specs.declared.fault.NodeRule.the-variants as node
@@ -36,7 +36,7 @@ abbrev pub clash : PairRule → RegionMap → ℕ → ℕ → Bool
 clash pair.Memory m i j = memoryClash (region m i) (region m j)
 clash pair.Managed m i j = managedClash (region m i) (region m j)
 clash pair.Ports m i j = portClash (region m i) (region m j)
-clash pair.Siblings m i j = siblingClash m i j
+clash pair.Siblings m i j = siblingClash priorityOf m i j
 
 -- what a search for the lowest region finds, whatever number goes with it
 abbrev pub LowestIs : (ℕ → Bool) → ℕ → Lowest → Type 0

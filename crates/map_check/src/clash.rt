@@ -5,7 +5,7 @@ ghost use Rattle.map_records.specs.Map.{region};
 ghost use Rattle.map_records.specs.Words.{mapOf};
 ghost use lib.ListN.{length};
 ghost use Rattle.map_check.specs.Clash.{share as shareOf, siblings as siblingsOf};
-ghost use Rattle.map_check.specs.Clash.{memoryClash, managedClash, portClash, clashBelow};
+ghost use Rattle.map_check.specs.Clash.{priorityOf, memoryClash, managedClash, portClash, clashBelow};
 ghost use Rattle.map_check.specs.Contracts.{clash};
 ghost use Rattle.map_check.specs.Fault.{parentOf};
 use crate::priority::priority_of;
@@ -86,7 +86,7 @@ fn size_of(map: &[u64], n: usize) -> u64
 // ever asked of them.
 fn sibling_clash(map: &[u64], a: Region, b: Region) -> bool
     requires { ⌜ length (now map) ≡ 289 ⌝ }
-    ensures { λ r. ⌜ r ≡ clashBelow (region (mapOf (now (map .entry))) (parentOf a) .size) a b ⌝ }
+    ensures { λ r. ⌜ r ≡ clashBelow priorityOf (region (mapOf (now (map .entry))) (parentOf a) .size) a b ⌝ }
 {
     let end = size_of(map, parent_of(a));
     let below = (a.offset < end) & (b.offset < end);

@@ -12,7 +12,7 @@ use borrow.Author.Tests.{lt-ltb, le-ltb, eq-eqb, ne-eqb, eqb-false}
 use Rattle.map_records.specs.Map.{ram, mmio, managed, region}
 use Rattle.map_check.specs.Reply.{accepted, plain}
 use Rattle.map_check.specs.Check.{Accepted}
-use Rattle.region_map.specs.Walk.{walkRoot}
+use Rattle.region_map.specs.Walk.{walkRoot, walkRootBy}
 use Rattle.region_map.specs.FlatList.{flat, inside, answerOf, lookup, Chain, Longest}
 use Rattle.region_map.specs.Flatten.{backingOf, rootSize, flatList, viewHolding, refusal, listed, flattened, FirstHalf}
 use Rattle.map_records.specs.View.{noRange, entries}
@@ -32,7 +32,7 @@ use Rattle.region_map.proofs.UniqueLaws.{unique, sound, entry-at, here,
 
 -- past the root the tree leads nowhere
 root-past : (m : RegionMap) (a : ℕ) → rootSize m ≤ a → walkRoot m a ≡ Nothing
-unfolding walkRoot
+unfolding walkRootBy
 root-past m a h = past m (m .count - 1) a h
 
 -- the list by address, for every map

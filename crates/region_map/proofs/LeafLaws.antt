@@ -8,7 +8,8 @@ use lib.Dec.{eqb, leb}
 use Rattle.map_records.specs.Map.{container, alias, region}
 use Rattle.map_check.specs.Check.{Accepted}
 use Rattle.region_map.specs.Visibility.{LeafOf}
-use Rattle.region_map.specs.Walk.{ranked, orElse, holds, asked, own, answer, tried, visit, walkBelow, walk, walkRoot}
+use Rattle.map_check.specs.Clash.{priorityOf}
+use Rattle.region_map.specs.Walk.{ranked, orElse, holds, asked, own, answer, tried, visit, walkBelow, walk, walkRoot, walkBy, walkRootBy}
 use Rattle.map_records.specs.declared.map.RegionMap.{RegionMap}
 use Rattle.map_records.specs.declared.map.RegionOffset.{RegionOffset}
 use Rattle.region_map.specs.declared.resolve.Resolved.{Resolved}
@@ -49,43 +50,43 @@ module _ (m : RegionMap) where
       go false e = record { below = omega arith; inside = h; «not-container» = eqb-false (region m n .kind) container e; «not-alias» = i }
 
   in-tried : (u : ℕ → ℕ → Resolved) (n : ℕ) → ((c x : ℕ) → Within n (u c x)) → (r a : ℕ) → a < region m n .size → (region m n .kind ≡ alias → ⊥)
-      → Within (suc n) (tried m u n r a)
+      → Within (suc n) (tried priorityOf m u n r a)
   unfolding tried answer asked
   in-tried u n w zero a h i = in-own n a h i
   in-tried u n w (suc r) a h i =
       let x : Resolved = u (r % 32) (a - region m (r % 32) .offset) in
-      either (suc n) (cond (ranked m n r) (cond (holds m (r % 32) a) x Nothing) Nothing) (tried m u n r a)
-      (chosen (suc n) (ranked m n r) (cond (holds m (r % 32) a) x Nothing) Nothing
+      either (suc n) (cond (ranked priorityOf m n r) (cond (holds m (r % 32) a) x Nothing) Nothing) (tried priorityOf m u n r a)
+      (chosen (suc n) (ranked priorityOf m n r) (cond (holds m (r % 32) a) x Nothing) Nothing
       (chosen (suc n) (holds m (r % 32) a) x Nothing (wider n (suc n) x (omega arith) (w (r % 32) (a - region m (r % 32) .offset))) tt) tt)
       (in-tried u n w r a h i)
 
-  in-visit : (u : ℕ → ℕ → Resolved) (n : ℕ) → ((c x : ℕ) → Within n (u c x)) → (a : ℕ) → Within (suc n) (visit m u n a)
+  in-visit : (u : ℕ → ℕ → Resolved) (n : ℕ) → ((c x : ℕ) → Within n (u c x)) → (a : ℕ) → Within (suc n) (visit priorityOf m u n a)
   unfolding visit
   in-visit u n w a = go (leb (region m n .size) a) refl (eqb (region m n .kind) alias) refl
     where
       go : (b : Bool) → leb (region m n .size) a ≡ b → (d : Bool) → eqb (region m n .kind) alias ≡ d
-          → Within (suc n) (cond b Nothing (cond d (u (region m n .target) (a + region m n .«alias_offset»)) (tried m u n 8192 a)))
+          → Within (suc n) (cond b Nothing (cond d (u (region m n .target) (a + region m n .«alias_offset»)) (tried priorityOf m u n 8192 a)))
       go true e d f = tt
       go false e true f = wider n (suc n) (u (region m n .target) (a + region m n .«alias_offset»)) (omega arith) (w (region m n .target) (a + region m n .«alias_offset»))
       go false e false f = in-tried u n w 8192 a (leb-false (region m n .size) a e) (eqb-false (region m n .kind) alias f)
 
-  in-below : (k c a : ℕ) → Within k (walkBelow m k c a)
+  in-below : (k c a : ℕ) → Within k (walkBelow priorityOf m k c a)
   unfolding walkBelow
   in-below zero c a = tt
-  in-below (suc k) c a = go (eqb c k) refl (in-below k c a) (in-visit (walkBelow m k) k (in-below k) a)
+  in-below (suc k) c a = go (eqb c k) refl (in-below k c a) (in-visit (walkBelow priorityOf m k) k (in-below k) a)
     where
-      go : (b : Bool) → eqb c k ≡ b → Within k (walkBelow m k c a) → Within (suc k) (visit m (walkBelow m k) k a)
-          → Within (suc k) (cond b (visit m (walkBelow m k) c a) (walkBelow m k c a))
+      go : (b : Bool) → eqb c k ≡ b → Within k (walkBelow priorityOf m k c a) → Within (suc k) (visit priorityOf m (walkBelow priorityOf m k) k a)
+          → Within (suc k) (cond b (visit priorityOf m (walkBelow priorityOf m k) c a) (walkBelow priorityOf m k c a))
       go true e p q = rw (eqb-true c k e) q
-      go false e p q = wider k (suc k) (walkBelow m k c a) (omega arith) p
+      go false e p q = wider k (suc k) (walkBelow priorityOf m k c a) (omega arith) p
 
   pub in-walk : (n a : ℕ) → Within (suc n) (walk m n a)
-  unfolding walk
-  in-walk n a = in-visit (walkBelow m n) n (in-below n) a
+  unfolding walkBy
+  in-walk n a = in-visit (walkBelow priorityOf m n) n (in-below n) a
 
 -- from the root of an accepted map
 pub root-leaf : (m : RegionMap) (memory : ℕ) → Accepted m memory → (a n : ℕ) (o : RegionOffset) → walkRoot m a ≡ At n o → LeafOf m n (o .0)
-unfolding walkRoot
+unfolding walkRootBy
 root-leaf m memory ok a n o e =
     let s = accepted-sound m memory ok in
     let some = s .some in

@@ -1,5 +1,6 @@
 pub mod Answers
 pub mod Demand3
+pub mod DeviceWindows
 mod FillLaws
 pub mod FlatLaws
 pub mod LeafLaws

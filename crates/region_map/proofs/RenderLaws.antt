@@ -11,9 +11,10 @@ use borrow.Author.Tests.{leb-true, leb-false, ltb-true, ltb-false}
 use lib.Dec.{leb, ltb}
 use lib.ListN.{length}
 use Rattle.map_records.specs.Map.{region}
-use Rattle.region_map.specs.Walk.{ranked, orElse, answer, tried, walkBelow, walk, walkRoot}
+use Rattle.map_check.specs.Clash.{priorityOf}
+use Rattle.region_map.specs.Walk.{ranked, orElse, walkBelow, walk, walkRoot, walkRootBy}
 use Rattle.map_check.specs.Contracts.{Walkable}
-use Rattle.region_map.specs.Contracts.{shift, NextChild, Grew, Pushed}
+use Rattle.region_map.specs.Contracts.{shift, NextChild, Grew, Pushed, triedIn, answerIn}
 use Rattle.region_map.specs.FlatList.{extend, flat}
 use Rattle.region_map.specs.Pieces.{countOf, horizonOf, startOf, firstOf, endOf, regionOf, offsetOf, window, itself, pieceGives, given, shown, Pieces, Behind, Whole}
 use Rattle.map_records.specs.declared.map.Region.{Region}
@@ -138,44 +139,44 @@ module _ (m : RegionMap) (n : ℕ) (x : Region) (same : x ≡ region m n) {w v :
       (subst (λ (y : Region). y .kind ≡ 3 → (a : ℕ) → a < y .size → walk m n a ≡ walk m (y .target) (a + y .«alias_offset»)) (sym same) (walk-alias m s n i) e)
       (past-size m n x same) first offset end r (omega arith) (omega arith) (omega arith) (omega arith) (λ h. omega arith)) b
 
-  pub through-children : (x .kind ≡ 3 → ⊥) → Behind w (window (tried m (walkBelow m n) n 8192) first offset (first + r)) v
+  pub through-children : (x .kind ≡ 3 → ⊥) → Behind w (window (triedIn m n 8192) first offset (first + r)) v
       → Behind w (window (walk m n) first offset end) v
   through-children e b =
       let z : offset + 0 ≡ offset = add-zero offset in
-      let inner = subst (λ (y : Region). (y .kind ≡ 3 → ⊥) → (a : ℕ) → a < y .size → walk m n a ≡ tried m (walkBelow m n) n 8192 a) (sym same) (walk-inside m n) e in
-      behind-ext (λ a. window-clip (walk m n) (tried m (walkBelow m n) n 8192) (x .size) 0
-      (λ o h. inner o h ∙ ap (tried m (walkBelow m n) n 8192) (sym (add-zero o))) (past-size m n x same) first offset end r (omega arith) (omega arith) (omega arith) (omega arith) (λ h. omega arith) a
-      ∙ ap (λ (o : ℕ). window (tried m (walkBelow m n) n 8192) first o (first + r) a) z) b
+      let inner = subst (λ (y : Region). (y .kind ≡ 3 → ⊥) → (a : ℕ) → a < y .size → walk m n a ≡ triedIn m n 8192 a) (sym same) (walk-inside m n) e in
+      behind-ext (λ a. window-clip (walk m n) (triedIn m n 8192) (x .size) 0
+      (λ o h. inner o h ∙ ap (triedIn m n 8192) (sym (add-zero o))) (past-size m n x same) first offset end r (omega arith) (omega arith) (omega arith) (omega arith) (λ h. omega arith) a
+      ∙ ap (λ (o : ℕ). window (triedIn m n 8192) first o (first + r) a) z) b
 
 -- The children of n, and n itself.
 
 module _ (m : RegionMap) (n b r first offset end : ℕ) (next : NextChild m n b r) where
   pub the-node : {w v : List ℕ} (x : Region) → x ≡ region m n → r ≡ 0 → (x .kind ≡ 0 → ⊥) → Behind w (window (itself n) first offset end) v
-      → Behind w (window (tried m (walkBelow m n) n b) first offset end) v
-  the-node x same e k d = behind-ext (window-ext (tried m (walkBelow m n) n b) (itself n) (λ x. tried-none m _ n b r next e x ∙ own-is m n (λ z. k (ap (λ (y : Region). y .kind) same ∙ z)) x) first offset end) d
+      → Behind w (window (triedIn m n b) first offset end) v
+  the-node x same e k d = behind-ext (window-ext (triedIn m n b) (itself n) (λ x. tried-none m _ n b r next e x ∙ own-is m n (λ z. k (ap (λ (y : Region). y .kind) same ∙ z)) x) first offset end) d
 
-  pub no-node : (w : List ℕ) (x : Region) → x ≡ region m n → Pieces w → r ≡ 0 → x .kind ≡ 0 → Behind w (window (tried m (walkBelow m n) n b) first offset end) w
-  no-node w x same p e k = behind-none w _ p (λ a h. window-nothing (tried m (walkBelow m n) n b) (λ x. tried-none m _ n b r next e x ∙ own-none m n (sym (ap (λ (y : Region). y .kind) same) ∙ k) x) first offset end a)
+  pub no-node : (w : List ℕ) (x : Region) → x ≡ region m n → Pieces w → r ≡ 0 → x .kind ≡ 0 → Behind w (window (triedIn m n b) first offset end) w
+  no-node w x same p e k = behind-none w _ p (λ a h. window-nothing (triedIn m n b) (λ x. tried-none m _ n b r next e x ∙ own-none m n (sym (ap (λ (y : Region). y .kind) same) ∙ k) x) first offset end a)
 
-  pub child-then : {w v u : List ℕ} → (r ≡ 0 → ⊥) → Behind w (window (answer m (walkBelow m n) n (r - 1)) first offset end) v → Behind v (window (tried m (walkBelow m n) n (r - 1)) first offset end) u
-      → Behind w (window (tried m (walkBelow m n) n b) first offset end) u
-  child-then ne d g = behind-ext (λ a. window-ext (tried m (walkBelow m n) n b) _ (tried-next m (walkBelow m n) n b r next ne) first offset end a
-      ∙ window-orElse (answer m (walkBelow m n) n (r - 1)) (tried m (walkBelow m n) n (r - 1)) first offset end a) (behind-then d g)
+  pub child-then : {w v u : List ℕ} → (r ≡ 0 → ⊥) → Behind w (window (answerIn m n (r - 1)) first offset end) v → Behind v (window (triedIn m n (r - 1)) first offset end) u
+      → Behind w (window (triedIn m n b) first offset end) u
+  child-then ne d g = behind-ext (λ a. window-ext (triedIn m n b) _ (tried-next m (walkBelow priorityOf m n) n b r next ne) first offset end a
+      ∙ window-orElse (answerIn m n (r - 1)) (triedIn m n (r - 1)) first offset end a) (behind-then d g)
 
 -- A child, which begins at or before the window, inside it, or not before its end.
-module _ (m : RegionMap) (n k : ℕ) (x : Region) (read : x ≡ region m (k % 32)) (first offset end : ℕ) (child : ranked m n k ≡ true) where
-  from-child : (a : ℕ) → x .offset ≤ a → answer m (walkBelow m n) n k a ≡ walk m (k % 32) (a - x .offset)
-  from-child = subst (λ (y : Region). (a : ℕ) → y .offset ≤ a → answer m (walkBelow m n) n k a ≡ walk m (k % 32) (a - y .offset)) (sym read) (child-at m n k child)
+module _ (m : RegionMap) (n k : ℕ) (x : Region) (read : x ≡ region m (k % 32)) (first offset end : ℕ) (child : ranked priorityOf m n k ≡ true) where
+  from-child : (a : ℕ) → x .offset ≤ a → answerIn m n k a ≡ walk m (k % 32) (a - x .offset)
+  from-child = subst (λ (y : Region). (a : ℕ) → y .offset ≤ a → answerIn m n k a ≡ walk m (k % 32) (a - y .offset)) (sym read) (child-at m n k child)
 
-  before-child : (a : ℕ) → a < x .offset → answer m (walkBelow m n) n k a ≡ Nothing
-  before-child = subst (λ (y : Region). (a : ℕ) → a < y .offset → answer m (walkBelow m n) n k a ≡ Nothing) (sym read) (child-before m n k child)
+  before-child : (a : ℕ) → a < x .offset → answerIn m n k a ≡ Nothing
+  before-child = subst (λ (y : Region). (a : ℕ) → a < y .offset → answerIn m n k a ≡ Nothing) (sym read) (child-before m n k child)
 
   pub child-begun : {w v : List ℕ} → x .offset ≤ offset → Behind w (window (walk m (k % 32)) first (offset - x .offset) end) v
-      → Behind w (window (answer m (walkBelow m n) n k) first offset end) v
+      → Behind w (window (answerIn m n k) first offset end) v
   child-begun h d = behind-ext same d
     where
-      same : (a : ℕ) → window (answer m (walkBelow m n) n k) first offset end a ≡ window (walk m (k % 32)) first (offset - x .offset) end a
-      same a = window-is (answer m (walkBelow m n) n k) first offset end a _
+      same : (a : ℕ) → window (answerIn m n k) first offset end a ≡ window (walk m (k % 32)) first (offset - x .offset) end a
+      same a = window-is (answerIn m n k) first offset end a _
           (λ p q.
           let z : offset + (a - first) - x .offset ≡ offset - x .offset + (a - first) = omega arith in
           from-child (offset + (a - first)) (omega arith) ∙ ap (walk m (k % 32)) z ∙ sym (window-in (walk m (k % 32)) first (offset - x .offset) end a p q))
@@ -183,23 +184,23 @@ module _ (m : RegionMap) (n k : ℕ) (x : Region) (read : x ≡ region m (k % 32
           (λ p. sym (window-past (walk m (k % 32)) first (offset - x .offset) end a p))
 
   pub child-ahead : {w v : List ℕ} → offset < x .offset → Behind w (window (walk m (k % 32)) (first + (x .offset - offset)) 0 end) v
-      → Behind w (window (answer m (walkBelow m n) n k) first offset end) v
+      → Behind w (window (answerIn m n k) first offset end) v
   child-ahead h d = behind-ext same d
     where
-      same : (a : ℕ) → window (answer m (walkBelow m n) n k) first offset end a ≡ window (walk m (k % 32)) (first + (x .offset - offset)) 0 end a
-      same a = window-is (answer m (walkBelow m n) n k) first offset end a _ (λ p q. inner p q (decLt a (first + (x .offset - offset))))
+      same : (a : ℕ) → window (answerIn m n k) first offset end a ≡ window (walk m (k % 32)) (first + (x .offset - offset)) 0 end a
+      same a = window-is (answerIn m n k) first offset end a _ (λ p q. inner p q (decLt a (first + (x .offset - offset))))
           (λ p. sym (window-before (walk m (k % 32)) (first + (x .offset - offset)) 0 end a (omega arith)))
           (λ p. sym (window-past (walk m (k % 32)) (first + (x .offset - offset)) 0 end a p))
         where
-          inner : first ≤ a → a < end → Dec (a < first + (x .offset - offset)) → answer m (walkBelow m n) n k (offset + (a - first)) ≡ window (walk m (k % 32)) (first + (x .offset - offset)) 0 end a
+          inner : first ≤ a → a < end → Dec (a < first + (x .offset - offset)) → answerIn m n k (offset + (a - first)) ≡ window (walk m (k % 32)) (first + (x .offset - offset)) 0 end a
           inner p q (yes l) = before-child (offset + (a - first)) (omega arith) ∙ sym (window-before (walk m (k % 32)) (first + (x .offset - offset)) 0 end a l)
           inner p q (no l) =
               let z : offset + (a - first) - x .offset ≡ 0 + (a - (first + (x .offset - offset))) = omega arith in
               from-child (offset + (a - first)) (omega arith) ∙ ap (walk m (k % 32)) z ∙ sym (window-in (walk m (k % 32)) (first + (x .offset - offset)) 0 end a (omega arith) q)
 
   pub child-beyond : (w : List ℕ) → Pieces w → offset < x .offset → end - first ≤ x .offset - offset
-      → Behind w (window (answer m (walkBelow m n) n k) first offset end) w
-  child-beyond w s h l = behind-none w _ s (λ a i. window-is (answer m (walkBelow m n) n k) first offset end a Nothing
+      → Behind w (window (answerIn m n k) first offset end) w
+  child-beyond w s h l = behind-none w _ s (λ a i. window-is (answerIn m n k) first offset end a Nothing
       (λ p q. before-child (offset + (a - first)) (omega arith)) (λ p. refl) (λ p. refl))
 
 -- What the pieces give an address: nothing between them, and inside one the piece.
@@ -338,7 +339,7 @@ module _ (backing : ℕ → Backing) (f : ℕ → Resolved) (w : List ℕ) (good
 
 whole-root : (m : RegionMap) (w v : List ℕ) (at offset end : ℕ) → countOf w ≡ 0 → startOf w ≡ at → horizonOf w ≡ end → offset ≡ at
     → Behind w (window (walk m (m .count - 1)) at offset end) v → Whole (walkRoot m) v
-unfolding walkRoot given
+unfolding walkRootBy given
 whole-root m w v at offset end none start horizon same b = record {
   gives = λ a h k.
       let z : offset + (a - at) ≡ a = omega (arith, b .start) in

@@ -15,6 +15,7 @@ use Rattle.map_check.specs.Check.{Accepted}
 use Rattle.map_check.specs.Sound.{Parented, Sound}
 use Rattle.region_map.specs.Visibility.{Holding, OneHolder, childAnswer, Visible}
 use Rattle.region_map.specs.Walk.{rank, child, ranked, orElse, holds, asked, own, answer, tried, walkBelow, walk}
+use Rattle.region_map.specs.Contracts.{triedIn, answerIn}
 use Rattle.map_records.specs.declared.map.RegionMap.{RegionMap}
 use Rattle.map_records.specs.declared.map.RegionOffset.{RegionOffset}
 use Rattle.region_map.specs.declared.resolve.Resolved.{Resolved}
@@ -24,29 +25,29 @@ use Rattle.map_check.proofs.Accepted.{apart-siblings, accepted-sound, accepted-
 use Rattle.region_map.proofs.WalkLaws.{rank-mod, is-ranked, walk-below, walk-inside, walk-alias, past, priority-le}
 
 module _ (m : RegionMap) (u : ℕ → ℕ → Resolved) (n a : ℕ) where
-  tried-wins : (b r k : ℕ) (o : RegionOffset) → r < b → answer m u n r a ≡ At k o → ((j : ℕ) → r < j → j < b → answer m u n j a ≡ Nothing) → tried m u n b a ≡ At k o
+  tried-wins : (b r k : ℕ) (o : RegionOffset) → r < b → answer priorityOf m u n r a ≡ At k o → ((j : ℕ) → r < j → j < b → answer priorityOf m u n j a ≡ Nothing) → tried priorityOf m u n b a ≡ At k o
   unfolding tried
   tried-wins zero r k o h e f = absurd (omega arith)
   tried-wins (suc b) r k o h e f =
-      ⊎-elim (λ (q : r ≡ b). ap (λ (x : Resolved). orElse x (tried m u n b a)) (ap (λ (j : ℕ). answer m u n j a) (sym q) ∙ e))
+      ⊎-elim (λ (q : r ≡ b). ap (λ (x : Resolved). orElse x (tried priorityOf m u n b a)) (ap (λ (j : ℕ). answer priorityOf m u n j a) (sym q) ∙ e))
       (λ (q : r < b). rw (f b q (omega arith)) (tried-wins b r k o q e (λ j p l. f j p (omega arith))))
       (eq-or-lt-of-le {n = r} {m = b} (omega arith))
 
-  tried-none : (b : ℕ) → ((j : ℕ) → j < b → answer m u n j a ≡ Nothing) → tried m u n b a ≡ own m n a
+  tried-none : (b : ℕ) → ((j : ℕ) → j < b → answer priorityOf m u n j a ≡ Nothing) → tried priorityOf m u n b a ≡ own m n a
   unfolding tried
   tried-none zero f = refl
   tried-none (suc b) f = rw (f b (omega arith)) (tried-none b (λ j l. f j (omega arith)))
 
 -- a rank that a child has
-ranked-rank : (m : RegionMap) (n j : ℕ) → ranked m n j ≡ true → rank m (j % 32) ≡ j
+ranked-rank : (m : RegionMap) (n j : ℕ) → ranked priorityOf m n j ≡ true → rank priorityOf m (j % 32) ≡ j
 unfolding ranked
-ranked-rank m n j p = eqb-true (rank m (j % 32)) j (and-snd (child m n (j % 32)) (eqb (rank m (j % 32)) j) p)
+ranked-rank m n j p = eqb-true (rank priorityOf m (j % 32)) j (and-snd (child m n (j % 32)) (eqb (rank priorityOf m (j % 32)) j) p)
 
-held : (m : RegionMap) (n a j : ℕ) → ranked m n j ≡ true → holds m (j % 32) a ≡ true → Holding m n a (j % 32)
+held : (m : RegionMap) (n a j : ℕ) → ranked priorityOf m n j ≡ true → holds m (j % 32) a ≡ true → Holding m n a (j % 32)
 unfolding ranked child holds
 held m n a j p q =
     let c = j % 32 in
-    let k = and-fst (ltb c n && eqb (region m c .parent) (n + 1)) (eqb (rank m c) j) p in
+    let k = and-fst (ltb c n && eqb (region m c .parent) (n + 1)) (eqb (rank priorityOf m c) j) p in
     record {
       below = ltb-true c n (and-fst (ltb c n) (eqb (region m c .parent) (n + 1)) k);
       parent = eqb-true (region m c .parent) (n + 1) (and-snd (ltb c n) (eqb (region m c .parent) (n + 1)) k);
@@ -56,23 +57,23 @@ held m n a j p q =
 
 -- what stands at a rank: nothing, or the answer of the child that has it
 module _ (m : RegionMap) (n a j : ℕ) where
-  rank-answer : ((c : ℕ) → Holding m n a c → rank m c ≡ j → childAnswer m (walk m) a c ≡ Nothing) → answer m (walkBelow m n) n j a ≡ Nothing
+  rank-answer : ((c : ℕ) → Holding m n a c → rank priorityOf m c ≡ j → childAnswer m (walk m) a c ≡ Nothing) → answerIn m n j a ≡ Nothing
   unfolding answer asked
-  rank-answer f = go (ranked m n j) refl (holds m (j % 32) a) refl
+  rank-answer f = go (ranked priorityOf m n j) refl (holds m (j % 32) a) refl
     where
-      here : ranked m n j ≡ true → holds m (j % 32) a ≡ true → walkBelow m n (j % 32) (a - region m (j % 32) .offset) ≡ Nothing
+      here : ranked priorityOf m n j ≡ true → holds m (j % 32) a ≡ true → walkBelow priorityOf m n (j % 32) (a - region m (j % 32) .offset) ≡ Nothing
       here p q =
           let is = held m n a j p q in
           walk-below m n (j % 32) (a - region m (j % 32) .offset) (is .below) ∙ f (j % 32) is (ranked-rank m n j p)
 
-      go : (x : Bool) → ranked m n j ≡ x → (y : Bool) → holds m (j % 32) a ≡ y
-          → cond x (cond y (walkBelow m n (j % 32) (a - region m (j % 32) .offset)) Nothing) Nothing ≡ Nothing
+      go : (x : Bool) → ranked priorityOf m n j ≡ x → (y : Bool) → holds m (j % 32) a ≡ y
+          → cond x (cond y (walkBelow priorityOf m n (j % 32) (a - region m (j % 32) .offset)) Nothing) Nothing ≡ Nothing
       go true p true q = here p q
       go true p false q = refl
       go false p y q = refl
 
   -- and the answer of a child at its own rank
-  own-rank : (c : ℕ) → c < 32 → Holding m n a c → rank m c ≡ j → answer m (walkBelow m n) n j a ≡ childAnswer m (walk m) a c
+  own-rank : (c : ℕ) → c < 32 → Holding m n a c → rank priorityOf m c ≡ j → answerIn m n j a ≡ childAnswer m (walk m) a c
   unfolding answer asked holds
   own-rank c l h e =
       rw (← e, is-ranked m n c (h .below) l (h .parent), rank-mod m c l, le-leb (region m c .offset) a (h .from), lt-ltb a (region m c .offset + region m c .size) (h .to))
@@ -96,7 +97,7 @@ one-holder m memory ok n a known inside c e p q same = go (decLt c e) (decLt e c
 
 -- and back: where parents are as 7 wants them and that holds at every address of every region, no two children clash
 pub holders-apart : (m : RegionMap) → ((n : ℕ) → n < m .count → (region m n .parent ≡ 0 → ⊥) → Parented m n)
-    → ((n a : ℕ) → n < m .count → a < region m n .size → OneHolder m n a) → (i j : ℕ) → i < j → j < m .count → siblingClash m i j ≡ false
+    → ((n a : ℕ) → n < m .count → a < region m n .size → OneHolder m n a) → (i j : ℕ) → i < j → j < m .count → siblingClash priorityOf m i j ≡ false
 unfolding siblingClash
 holders-apart m parents holders i j less known =
     let n = parentOf (region m i) in
@@ -114,12 +115,12 @@ module _ (m : RegionMap) (memory : ℕ) (ok : Accepted m memory) (n a : ℕ) (kn
   s : Sound m memory
   s = accepted-sound m memory ok
 
-  rank-bound : (c : ℕ) → c < n → rank m c < 8192
+  rank-bound : (c : ℕ) → c < n → rank priorityOf m c < 8192
   unfolding rank
   rank-bound c l = let low : c < m .count = omega arith in omega (arith, priority-le (region m c) (s .bounded c low .priority), s .count)
 
   -- of two children that hold the address the one of the higher rank has the higher priority
-  higher : (c e : ℕ) → Holding m n a c → Holding m n a e → rank m c < rank m e → priorityOf (region m c) < priorityOf (region m e)
+  higher : (c e : ℕ) → Holding m n a c → Holding m n a e → rank priorityOf m c < rank priorityOf m e → priorityOf (region m c) < priorityOf (region m e)
   unfolding rank s
   higher c e p q h = go (decLt (priorityOf (region m c)) (priorityOf (region m e)))
     where
@@ -141,12 +142,12 @@ module _ (m : RegionMap) (memory : ℕ) (ok : Accepted m memory) (n a : ℕ) (kn
       let few = s .count in
       let l : c < 32 = omega (arith, h .below) in
       walk-inside m n kind a inside
-      ∙ tried-wins m (walkBelow m n) n a 8192 (rank m c) k o (rank-bound c (h .below)) (own-rank m n a (rank m c) c l h refl ∙ x)
-      (λ j p q. rank-answer m n a j (λ e g r. f e g (higher c e h g (let z : rank m c < rank m e = omega arith in z))))
+      ∙ tried-wins m (walkBelow priorityOf m n) n a 8192 (rank priorityOf m c) k o (rank-bound c (h .below)) (own-rank m n a (rank priorityOf m c) c l h refl ∙ x)
+      (λ j p q. rank-answer m n a j (λ e g r. f e g (higher c e h g (let z : rank priorityOf m c < rank priorityOf m e = omega arith in z))))
 
   -- 'if none of the subregions match': the region itself
   none-wins : ((e : ℕ) → Holding m n a e → childAnswer m (walk m) a e ≡ Nothing) → walk m n a ≡ own m n a
-  none-wins f = walk-inside m n kind a inside ∙ tried-none m (walkBelow m n) n a 8192 (λ j q. rank-answer m n a j (λ e g r. f e g))
+  none-wins f = walk-inside m n kind a inside ∙ tried-none m (walkBelow priorityOf m n) n a 8192 (λ j q. rank-answer m n a j (λ e g r. f e g))
 
 -- all four cases
 pub visibility : (m : RegionMap) (memory : ℕ) → Accepted m memory → (n a : ℕ) → n < m .count → Visible m (walk m) n a
@@ -159,14 +160,14 @@ visibility m memory ok n a known =
     }
 
 -- the child at a rank that answers
-answering : (m : RegionMap) (n a j k : ℕ) (o : RegionOffset) → answer m (walkBelow m n) n j a ≡ At k o
-    → Holding m n a (j % 32) × (rank m (j % 32) ≡ j) × (childAnswer m (walk m) a (j % 32) ≡ At k o)
+answering : (m : RegionMap) (n a j k : ℕ) (o : RegionOffset) → answerIn m n j a ≡ At k o
+    → Holding m n a (j % 32) × (rank priorityOf m (j % 32) ≡ j) × (childAnswer m (walk m) a (j % 32) ≡ At k o)
 unfolding answer asked
-answering m n a j k o = go (ranked m n j) refl (holds m (j % 32) a) refl
+answering m n a j k o = go (ranked priorityOf m n j) refl (holds m (j % 32) a) refl
   where
-    go : (x : Bool) → ranked m n j ≡ x → (y : Bool) → holds m (j % 32) a ≡ y
-        → cond x (cond y (walkBelow m n (j % 32) (a - region m (j % 32) .offset)) Nothing) Nothing ≡ At k o
-        → Holding m n a (j % 32) × (rank m (j % 32) ≡ j) × (childAnswer m (walk m) a (j % 32) ≡ At k o)
+    go : (x : Bool) → ranked priorityOf m n j ≡ x → (y : Bool) → holds m (j % 32) a ≡ y
+        → cond x (cond y (walkBelow priorityOf m n (j % 32) (a - region m (j % 32) .offset)) Nothing) Nothing ≡ At k o
+        → Holding m n a (j % 32) × (rank priorityOf m (j % 32) ≡ j) × (childAnswer m (walk m) a (j % 32) ≡ At k o)
     go true p true q e =
         let is = held m n a j p q in
         (is, ranked-rank m n j p, sym (walk-below m n (j % 32) (a - region m (j % 32) .offset) (is .below)) ∙ e)
@@ -174,7 +175,7 @@ answering m n a j k o = go (ranked m n j) refl (holds m (j % 32) a) refl
     go false p y q e = absurd (let z : _≡_ {A = ℕ} 0 1 = cc in omega arith)
 
 -- a higher priority is a higher rank
-rank-above : (m : RegionMap) (c e : ℕ) → c < 32 → priorityOf (region m c) < priorityOf (region m e) → rank m c < rank m e
+rank-above : (m : RegionMap) (c e : ℕ) → c < 32 → priorityOf (region m c) < priorityOf (region m e) → rank priorityOf m c < rank priorityOf m e
 unfolding rank
 rank-above m c e l p = omega arith
 
@@ -182,24 +183,24 @@ rank-above m c e l p = omega arith
 module _ (m : RegionMap) (memory : ℕ) (ok : Accepted m memory) (f : ℕ → ℕ → Resolved) (rules : (n a : ℕ) → n < m .count → Visible m f n a) where
   module _ (n a : ℕ) (known : n < m .count) (lower : (c x : ℕ) → c < n → f c x ≡ walk m c x) (inside : a < region m n .size) (kind : region m n .kind ≡ alias → ⊥) where
     -- a child whose rank answers nothing answers nothing
-    silent : (e : ℕ) → Holding m n a e → answer m (walkBelow m n) n (rank m e) a ≡ Nothing → childAnswer m f a e ≡ Nothing
+    silent : (e : ℕ) → Holding m n a e → answerIn m n (rank priorityOf m e) a ≡ Nothing → childAnswer m f a e ≡ Nothing
     silent e h q =
         let few = accepted-sound m memory ok .count in
         let below = h .below in
         let l : e < 32 = omega arith in
-        lower e (a - region m e .offset) below ∙ sym (own-rank m n a (rank m e) e l h refl) ∙ q
+        lower e (a - region m e .offset) below ∙ sym (own-rank m n a (rank priorityOf m e) e l h refl) ∙ q
 
-    by-ranks : (r : ℕ) → ((e : ℕ) → Holding m n a e → r ≤ rank m e → answer m (walkBelow m n) n (rank m e) a ≡ Nothing) → f n a ≡ tried m (walkBelow m n) n r a
+    by-ranks : (r : ℕ) → ((e : ℕ) → Holding m n a e → r ≤ rank priorityOf m e → answerIn m n (rank priorityOf m e) a ≡ Nothing) → f n a ≡ triedIn m n r a
     unfolding tried
     by-ranks zero above = rules n a known .none inside kind (λ e h. silent e h (above e h (omega arith)))
-    by-ranks (suc r) above = go (answer m (walkBelow m n) n r a) refl (by-ranks r)
+    by-ranks (suc r) above = go (answerIn m n r a) refl (by-ranks r)
       where
-        go : (x : Resolved) → answer m (walkBelow m n) n r a ≡ x
-            → (((e : ℕ) → Holding m n a e → r ≤ rank m e → answer m (walkBelow m n) n (rank m e) a ≡ Nothing) → f n a ≡ tried m (walkBelow m n) n r a)
-            → f n a ≡ orElse x (tried m (walkBelow m n) n r a)
+        go : (x : Resolved) → answerIn m n r a ≡ x
+            → (((e : ℕ) → Holding m n a e → r ≤ rank priorityOf m e → answerIn m n (rank priorityOf m e) a ≡ Nothing) → f n a ≡ triedIn m n r a)
+            → f n a ≡ orElse x (triedIn m n r a)
         go Nothing q ih = ih (λ e h l.
-            ⊎-elim (λ (s : r ≡ rank m e). ap (λ (j : ℕ). answer m (walkBelow m n) n j a) (sym s) ∙ q) (λ (s : r < rank m e). above e h s)
-            (eq-or-lt-of-le {n = r} {m = rank m e} l))
+            ⊎-elim (λ (s : r ≡ rank priorityOf m e). ap (λ (j : ℕ). answerIn m n j a) (sym s) ∙ q) (λ (s : r < rank priorityOf m e). above e h s)
+            (eq-or-lt-of-le {n = r} {m = rank priorityOf m e} l))
         go (At k o) q ih =
             let won = answering m n a r k o q in
             rules n a known .child inside kind (r % 32) k o (won .0) (lower (r % 32) (a - region m (r % 32) .offset) (won .0 .below) ∙ won .2)

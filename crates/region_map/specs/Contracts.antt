@@ -7,8 +7,9 @@ use lib.Dec.{ltb}
 use lib.ListN.{length, drop, replicate}
 use Rattle.map_records.specs.View.{noRange, rangeOf, entries}
 use Rattle.map_records.specs.Words.{mapOf, viewOf}
+use Rattle.map_check.specs.Clash.{priorityOf}
 use Rattle.map_check.specs.Contracts.{Tree}
-use Rattle.region_map.specs.Walk.{ranked, walkRoot}
+use Rattle.region_map.specs.Walk.{ranked, answer, tried, walkBelow, walkRoot}
 use Rattle.region_map.specs.Flatten.{flatBelow}
 use Rattle.region_map.specs.Pieces.{startOf, Pieces, Whole}
 use Rattle.map_records.specs.declared.map.RegionMap.{RegionMap}
@@ -19,6 +20,13 @@ use Rattle.region_map.specs.declared.resolve.Resolved.the-variants.{Noth
 
 -- The walk.
 
+-- the walk at the children of n of the ranks below r and then at n, and at its child of rank r
+abbrev pub triedIn : RegionMap → ℕ → ℕ → ℕ → Resolved
+triedIn m n r a = tried priorityOf m (walkBelow priorityOf m n) n r a
+
+abbrev pub answerIn : RegionMap → ℕ → ℕ → ℕ → Resolved
+answerIn m n r a = answer priorityOf m (walkBelow priorityOf m n) n r a
+
 -- region n of a map that can be gone through
 pub record InTree (w : List ℕ) (n : ℕ) : Type 0 where
   pub tree : Tree w
@@ -27,8 +35,8 @@ pub record InTree (w : List ℕ) (n : ℕ) : Type 0 where
 -- what the search for the next child finds: 0 where no child of n has a rank below b, else one more than the highest such rank
 pub record NextChild (m : RegionMap) (n b r : ℕ) : Type 0 where
   pub within : r ≤ b
-  pub found : (k : ℕ) → r ≡ k + 1 → ranked m n k ≡ true
-  pub above : (k : ℕ) → r ≤ k → k < b → ranked m n k ≡ false
+  pub found : (k : ℕ) → r ≡ k + 1 → ranked priorityOf m n k ≡ true
+  pub above : (k : ℕ) → r ≤ k → k < b → ranked priorityOf m n k ≡ false
 
 -- the same answer, d bytes on; what the laws of ranges call a run
 abbrev pub shift : ℕ → Resolved → Resolved

@@ -1,4 +1,5 @@
 pub mod Walk
+pub mod DeviceWindows
 pub mod Visibility
 pub mod Resolve
 pub mod FlatList

@@ -1,24 +1,17 @@
--- The walk through a region map ('The tree'; source 001, Visibility): what a region answers at an address inside it, on every map. Assumes nothing: these are definitions.
+-- The walk through a region map ('The tree'; source 001, Visibility): what a region answers at an address inside it, on every map. What a priority field means is a parameter: `walk` has the present meaning, and document 02's Req 07 speaks of the walk with the old one too. Assumes nothing: these are definitions.
 use mathlib.Core.Bool.{Bool, _&&_, cond}
 use Prim.Native.Nat.{ℕ, zero, suc, _+_, _-_, _*_, _%_}
 use lib.Dec.{eqb, leb, ltb}
 use Rattle.map_records.specs.Map.{container, alias, region}
 use Rattle.map_check.specs.Clash.{priorityOf}
+use Rattle.map_records.specs.declared.map.Region.{Region}
 use Rattle.map_records.specs.declared.map.RegionMap.{RegionMap}
 use Rattle.region_map.specs.declared.resolve.Resolved.{Resolved}
 use Rattle.region_map.specs.declared.resolve.Resolved.the-variants.{Nothing, At}
 
--- The order of children: by priority, and among equal priorities by number. In an accepted map equal priorities never share an address that the parent has, and no other is searched, so there the numbers settle nothing.
-unfoldable pub rank : RegionMap → ℕ → ℕ
-rank m c = priorityOf (region m c) * 32 + c
-
 -- c is a child of n: a region below n that names it as its parent
 unfoldable pub child : RegionMap → ℕ → ℕ → Bool
 child m n c = ltb c n && eqb (region m c .parent) (n + 1)
-
--- r is the rank of a child of n, the region r % 32
-unfoldable pub ranked : RegionMap → ℕ → ℕ → Bool
-ranked m n r = child m n (r % 32) && eqb (rank m (r % 32)) r
 
 -- the first that answers
 abbrev pub orElse : Resolved → Resolved → Resolved
@@ -37,31 +30,48 @@ asked m under c a = cond (holds m c a) (under c (a - region m c .offset)) Nothin
 unfoldable pub own : RegionMap → ℕ → ℕ → Resolved
 own m n a = cond (eqb (region m n .kind) container) Nothing (At n (record { 0 = a }))
 
--- what the child of rank r answers, where there is one
-unfoldable pub answer : RegionMap → (ℕ → ℕ → Resolved) → ℕ → ℕ → ℕ → Resolved
-answer m under n r a = cond (ranked m n r) (asked m under (r % 32) a) Nothing
+-- by what a region's priority is, with 128 added
+module _ (priority : Region → ℕ) where
+  -- The order of children: by priority, and among equal priorities by number. In an accepted map equal priorities never share an address that the parent has, and no other is searched, so there the numbers settle nothing.
+  unfoldable pub rank : RegionMap → ℕ → ℕ
+  rank m c = priority (region m c) * 32 + c
 
--- 'highest priority first .. the first that answers wins': the children of n whose ranks are below r; if none answers, n itself
-unfoldable pub tried : RegionMap → (ℕ → ℕ → Resolved) → ℕ → ℕ → ℕ → Resolved
-tried m under n zero a = own m n a
-tried m under n (suc r) a = orElse (answer m under n r a) (tried m under n r a)
+  -- r is the rank of a child of n, the region r % 32
+  unfoldable pub ranked : RegionMap → ℕ → ℕ → Bool
+  ranked m n r = child m n (r % 32) && eqb (rank m (r % 32)) r
 
--- region n at a, where `under` walks the regions below n: 'address not below the size: nothing; alias: walk at the target with address + alias offset; otherwise take the children'. With the priority fields that 6 lets pass every rank is below 256 * 32.
-unfoldable pub visit : RegionMap → (ℕ → ℕ → Resolved) → ℕ → ℕ → Resolved
-visit m under n a =
-    cond (leb (region m n .size) a) Nothing
-    (cond (eqb (region m n .kind) alias) (under (region m n .target) (a + region m n .«alias_offset»))
-    (tried m under n 8192 a))
+  -- what the child of rank r answers, where there is one
+  unfoldable pub answer : RegionMap → (ℕ → ℕ → Resolved) → ℕ → ℕ → ℕ → Resolved
+  answer m under n r a = cond (ranked m n r) (asked m under (r % 32) a) Nothing
 
--- the walk at the regions below k; nothing at others
-unfoldable pub walkBelow : RegionMap → ℕ → ℕ → ℕ → Resolved
-walkBelow m zero n a = Nothing
-walkBelow m (suc k) n a = cond (eqb n k) (visit m (walkBelow m k) n a) (walkBelow m k n a)
+  -- 'highest priority first .. the first that answers wins': the children of n whose ranks are below r; if none answers, n itself
+  unfoldable pub tried : RegionMap → (ℕ → ℕ → Resolved) → ℕ → ℕ → ℕ → Resolved
+  tried m under n zero a = own m n a
+  tried m under n (suc r) a = orElse (answer m under n r a) (tried m under n r a)
 
--- the walk at region n
-unfoldable pub walk : RegionMap → ℕ → ℕ → Resolved
-walk m n a = visit m (walkBelow m n) n a
+  -- region n at a, where `under` walks the regions below n: 'address not below the size: nothing; alias: walk at the target with address + alias offset; otherwise take the children'. With the priority fields that 6 lets pass every rank is below 256 * 32.
+  unfoldable pub visit : RegionMap → (ℕ → ℕ → Resolved) → ℕ → ℕ → Resolved
+  visit m under n a =
+      cond (leb (region m n .size) a) Nothing
+      (cond (eqb (region m n .kind) alias) (under (region m n .target) (a + region m n .«alias_offset»))
+      (tried m under n 8192 a))
 
--- 'The root is the last. .. A guest address is walked from the root.'
-unfoldable pub walkRoot : RegionMap → ℕ → Resolved
-walkRoot m a = walk m (m .count - 1) a
+  -- the walk at the regions below k; nothing at others
+  unfoldable pub walkBelow : RegionMap → ℕ → ℕ → ℕ → Resolved
+  walkBelow m zero n a = Nothing
+  walkBelow m (suc k) n a = cond (eqb n k) (visit m (walkBelow m k) n a) (walkBelow m k n a)
+
+  -- the walk at region n
+  unfoldable pub walkBy : RegionMap → ℕ → ℕ → Resolved
+  walkBy m n a = visit m (walkBelow m n) n a
+
+  -- 'The root is the last. .. A guest address is walked from the root.'
+  unfoldable pub walkRootBy : RegionMap → ℕ → Resolved
+  walkRootBy m a = walkBy m (m .count - 1) a
+
+-- the walk, with a priority's present meaning
+abbrev pub walk : RegionMap → ℕ → ℕ → Resolved
+walk = walkBy priorityOf
+
+abbrev pub walkRoot : RegionMap → ℕ → Resolved
+walkRoot = walkRootBy priorityOf

@@ -2,6 +2,7 @@
 ghost use mathlib.Core.Path.{_≡_};
 ghost use Prim.Native.Nat.{_≤_};
 ghost use Rattle.map_records.specs.Words.{mapOf};
+ghost use Rattle.map_check.specs.Clash.{priorityOf};
 ghost use Rattle.region_map.specs.Walk.{rank as rankOf};
 ghost use Rattle.region_map.specs.Contracts.{InTree, NextChild};
 use map_check::priority::priority_of;
@@ -13,7 +14,7 @@ pub const RANKS: usize = 8192;
 // The place of region c among its parent's children: by priority, then by number.
 fn rank(map: &[u64], c: usize) -> usize
     requires { ⌜ InTree (now map) c ⌝ }
-    ensures { λ r. ⌜ r ≡ rankOf (mapOf (now (map .entry))) c ⌝ }
+    ensures { λ r. ⌜ r ≡ rankOf priorityOf (mapOf (now (map .entry))) c ⌝ }
 {
     let region = region_at(map, c);
     (priority_of(region) as usize) * 32 + c

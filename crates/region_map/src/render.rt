@@ -1,9 +1,9 @@
 // Filling the table of pieces from the tree: a region and its remaining children are two functions that
 // call each other, as in the walk, over a window of addresses and not one address.
 ghost use Prim.Native.Nat.{_^_, _≤_};
-ghost use Rattle.region_map.specs.Walk.{walk as walkOf, tried, walkBelow};
+ghost use Rattle.region_map.specs.Walk.{walk as walkOf};
 ghost use Rattle.map_records.specs.Words.{mapOf};
-ghost use Rattle.region_map.specs.Contracts.{InTree};
+ghost use Rattle.region_map.specs.Contracts.{InTree, triedIn};
 ghost use Rattle.region_map.specs.Pieces.{seen, Windowed, Behind};
 use crate::children::RANKS;
 use crate::children::next_child;
@@ -47,7 +47,7 @@ fn render_children(map: &[u64], table: &mut [u64], n: usize, at: Window, below: 
     requires { ⌜ InTree (now map) n × (below ≤ 8192) ⌝ }
     requires { ⌜ Windowed (now table) at × (at .first .0 ≤ at .end .0) × (at .offset .0 ≤ 2 ^ 48) ⌝ }
     ensures { λ _. ⌜ Behind (now (table .entry))
-        (seen (tried (mapOf (now (map .entry))) (walkBelow (mapOf (now (map .entry))) n) n below) at) (now (table .exit)) ⌝ }
+        (seen (triedIn (mapOf (now (map .entry))) n below) at) (now (table .exit)) ⌝ }
 {
     let next = next_child(map, n, below);
     if next == 0 {

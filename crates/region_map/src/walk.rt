@@ -2,9 +2,9 @@
 // that call each other: the pair of region number and children left falls.
 ghost use mathlib.Core.Path.{_≡_};
 ghost use Prim.Native.Nat.{_≤_};
-ghost use Rattle.region_map.specs.Walk.{walk as walkOf, tried, walkBelow};
+ghost use Rattle.region_map.specs.Walk.{walk as walkOf};
 ghost use Rattle.map_records.specs.Words.{mapOf};
-ghost use Rattle.region_map.specs.Contracts.{InTree};
+ghost use Rattle.region_map.specs.Contracts.{InTree, triedIn};
 use crate::children::RANKS;
 use crate::children::next_child;
 use crate::resolve::Resolved;
@@ -32,7 +32,7 @@ pub fn walk(map: &[u64], n: usize, at: RegionOffset) -> Resolved
 // The children of n whose ranks are below `below`, highest first, and then n itself.
 fn walk_children(map: &[u64], n: usize, at: RegionOffset, below: usize) -> Resolved
     requires { ⌜ InTree (now map) n × (below ≤ 8192) ⌝ }
-    ensures { λ r. ⌜ r ≡ tried (mapOf (now (map .entry))) (walkBelow (mapOf (now (map .entry))) n) n below (at .0) ⌝ }
+    ensures { λ r. ⌜ r ≡ triedIn (mapOf (now (map .entry))) n below (at .0) ⌝ }
 {
     let next = next_child(map, n, below);
     if next == 0 {

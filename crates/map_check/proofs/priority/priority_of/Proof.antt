@@ -4,10 +4,13 @@ use Rattle.map_check.proofs.priority.priority_of.Statement.{statement}
 use Rattle.map_check.proofs.priority.priority_of.Tie as tie
 
 returns : tie.Need-returns
-returns c = simp (eq-eqb _ _ (c .if1 .taken))
+returns c = simp (ne-eqb _ _ (c .if1 .taken))
 
 returns-2 : tie.Need-returns-2
-returns-2 c = simp (ne-eqb _ _ (c .if1 .left))
+returns-2 c = simp (eq-eqb _ _ (c .before .before .if1 .left), eq-eqb _ _ (c .if2 .taken))
+
+returns-3 : tie.Need-returns-3
+returns-3 c = simp (eq-eqb _ _ (c .before .before .if1 .left), ne-eqb _ _ (c .if2 .left))
 
 pub priority-of-spec : {M : Type 1} → statement M
-priority-of-spec = tie.close (tie.spec returns returns-2)
+priority-of-spec = tie.close (tie.spec returns returns-2 returns-3)

@@ -8,6 +8,7 @@ use native.Mathlib.Omega.{arith}
 use Rattle.map_records.specs.declared.map.Region.{Region}
 use Rattle.map_records.specs.declared.map.RegionMap.{RegionMap}
 use Rattle.map_records.specs.Map.{region}
+use Rattle.map_check.specs.Clash.{priorityOf}
 use Rattle.region_map.specs.Walk.{rank, ranked}
 use Rattle.map_records.specs.Words.{mapOf}
 use Rattle.region_map.proofs.WalkLaws.{looked, is-ranked, child-below}
@@ -16,17 +17,17 @@ use Rattle.region_map.proofs.children.next_child.Tie as tie
 
 abbrev Looked : RegionMap → ℕ → ℕ → ℕ → ℕ → Type 0
 Looked m n below best c =
-    (c ≤ n) × (best ≤ below) × ((k : ℕ) → best ≡ k + 1 → ranked m n k ≡ true) ×
-    ((k : ℕ) → best ≤ k → k < below → k % 32 < c → ranked m n k ≡ false)
+    (c ≤ n) × (best ≤ below) × ((k : ℕ) → best ≡ k + 1 → ranked priorityOf m n k ≡ true) ×
+    ((k : ℕ) → best ≤ k → k < below → k % 32 < c → ranked priorityOf m n k ≡ false)
 
-kept : (m : RegionMap) (n below best best' c : ℕ) → Looked m n below best c → c < n → best' ≡ best → (region m c .parent ≡ n + 1 → (rank m c < best) ⊎ (below ≤ rank m c)) → Looked m n below best' (c + 1)
+kept : (m : RegionMap) (n below best best' c : ℕ) → Looked m n below best c → c < n → best' ≡ best → (region m c .parent ≡ n + 1 → (rank priorityOf m c < best) ⊎ (below ≤ rank priorityOf m c)) → Looked m n below best' (c + 1)
 kept m n below best best' c l h e new = rw e (omega arith, l .1, l .2, looked m n best below c (l .3) new)
 
-found : (m : RegionMap) (n below best best' c : ℕ) → Looked m n below best c → c < n → c < 32 → best' ≡ rank m c + 1 → region m c .parent ≡ n + 1 → rank m c < below → best ≤ rank m c → Looked m n below best' (c + 1)
+found : (m : RegionMap) (n below best best' c : ℕ) → Looked m n below best c → c < n → c < 32 → best' ≡ rank priorityOf m c + 1 → region m c .parent ≡ n + 1 → rank priorityOf m c < below → best ≤ rank priorityOf m c → Looked m n below best' (c + 1)
 found m n below best best' c l h w e p lt le = (
   omega arith,
   omega arith,
-  λ k q. let s : rank m c ≡ k = omega arith in subst (λ (j : ℕ). ranked m n j ≡ true) s (is-ranked m n c h w p),
+  λ k q. let s : rank priorityOf m c ≡ k = omega arith in subst (λ (j : ℕ). ranked priorityOf m n j ≡ true) s (is-ranked m n c h w p),
   looked m n best' below c (λ k a b d. l .3 k (omega arith) b d) (λ _. inl (omega arith)),
 )
 
@@ -79,7 +80,7 @@ loop-again c =
     let l = c .before .before .before .before .loop in
     let lt = c .before .before .before .loop-test .taken in
     let parent = ap (λ (r : Region). r .parent) (c .before .before .region-at .ensures) in
-    let go-on : (c .if1 .best ≡ l .best) → (region m (l .c) .parent ≡ a .n + 1 → (rank m (l .c) < l .best) ⊎ (a .below ≤ rank m (l .c))) → Looked m (a .n) (a .below) (c .if1 .best) (l .c + 1)
+    let go-on : (c .if1 .best ≡ l .best) → (region m (l .c) .parent ≡ a .n + 1 → (rank priorityOf m (l .c) < l .best) ⊎ (a .below ≤ rank priorityOf m (l .c))) → Looked m (a .n) (a .below) (c .if1 .best) (l .c + 1)
     = kept m (a .n) (a .below) (l .best) (c .if1 .best) (l .c) (l .inv) lt in
     ⊎-elim
     (λ w. found m (a .n) (a .below) (l .best) (c .if1 .best) (l .c) (l .inv) lt (omega (arith, lt, s .pre .0 .below, s .pre .0 .tree .walkable .count)) (omega (arith, w)) (sym parent ∙ w .0 .taken) (omega (arith, w)) (omega (arith, w)))
@@ -96,7 +97,7 @@ returns c =
     record {
       within = l .inv .1;
       found = l .inv .2;
-      above = λ k x y. only (ranked m (a .n) k)
+      above = λ k x y. only (ranked priorityOf m (a .n) k)
           (λ e. l .inv .3 k x y (let h : k % 32 < a .n = child-below m _ k e in omega (arith, h, c .loop-test .left)));
     }
 

@@ -3,7 +3,9 @@ use mathlib.Core.Bool.{true}
 use mathlib.Core.Path.{_≡_, _∙_}
 use mathlib.Core.Logic.{⊎-elim}
 use native.Mathlib.Omega.{arith}
-use Rattle.region_map.specs.Walk.{ranked, walk, walkBelow, answer}
+use Rattle.map_check.specs.Clash.{priorityOf}
+use Rattle.region_map.specs.Walk.{ranked, walk}
+use Rattle.region_map.specs.Contracts.{answerIn}
 use Rattle.region_map.specs.Pieces.{window, Behind}
 use Rattle.map_records.specs.Words.{mapOf}
 use Rattle.region_map.proofs.WalkLaws.{is-child, child-below}
@@ -216,7 +218,7 @@ render-children-region-at-requires-2 t c κs = (c .before .before .before .befor
 abbrev Child : ℕ → Type 0
 Child t = render-children-lts.Else1 (children-calls t) (render-children-at t) render-children.Post
 
-child : (t : ℕ) (c : Child t) → ranked (mapOf (c .before .before .before .before .args .map .now)) (c .before .before .before .before .args .n) (c .before .next-child .result - 1) ≡ true
+child : (t : ℕ) (c : Child t) → ranked priorityOf (mapOf (c .before .before .before .before .args .map .now)) (c .before .before .before .before .args .n) (c .before .next-child .result - 1) ≡ true
 child t c =
     let a = c .before .before .before .before .args in
     is-child (mapOf (a .map .now)) (a .n) (a .below) _ (c .before .next-child .ensures) (c .if1 .left)
@@ -255,7 +257,7 @@ render-children-render-requires-2 t c κs =
 put : (t : ℕ) (c : render-children-lts.Joined3 (children-calls t) (render-children-at t) render-children.Post)
     → let a = c .before .before .before .before .before .before .before .before .args in
     Behind (a .table .now)
-    (window (answer (mapOf (a .map .now)) (walkBelow (mapOf (a .map .now)) (a .n)) (a .n) (c .before .before .before .before .before .next-child .result - 1)) (a .at .first .0) (a .at .offset .0) (a .at .end .0))
+    (window (answerIn (mapOf (a .map .now)) (a .n) (c .before .before .before .before .before .next-child .result - 1)) (a .at .first .0) (a .at .offset .0) (a .at .end .0))
     (c .if3 .table)
 put t c =
     let s = c .before .before .before .before .before .before .before .before in

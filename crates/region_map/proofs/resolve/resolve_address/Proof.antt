@@ -4,7 +4,7 @@ use mathlib.Core.Path.{_≡_, sym, ap, _∙_}
 use native.Mathlib.Omega.{arith}
 use Rattle.map_records.specs.Words.{mapOf}
 use Rattle.map_check.specs.Check.{Accepted}
-use Rattle.region_map.specs.Walk.{walk, walkRoot}
+use Rattle.region_map.specs.Walk.{walk, walkRootBy}
 use Rattle.map_check.proofs.Accepted.{is-accepted}
 use Rattle.map_check.proofs.MapWords.{accepted-words, accepted-tree, accepted-some}
 use Rattle.region_map.proofs.ResolveLaws.{led, not-led}
@@ -32,7 +32,7 @@ walk-requires c κs =
     }
 
 returns : tie.Need-returns
-unfolding walkRoot
+unfolding walkRootBy
 returns c =
     let m = mapOf (c .before .before .before .before .before .before .before .args .map .now) in
     let k : c .before .before .region-count .result - 1 ≡ mapOf (c .before .before .before .before .before .before .before .args .map .now) .count - 1 = omega (arith, c .before .before .region-count .ensures) in

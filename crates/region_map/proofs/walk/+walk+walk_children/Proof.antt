@@ -2,7 +2,8 @@
 use mathlib.Core.Path.{_≡_, sym, ap, _∙_}
 use native.Mathlib.Omega.{arith}
 use Rattle.map_records.specs.declared.map.Region.{Region}
-use Rattle.region_map.specs.Walk.{orElse, tried, walkBelow, walk as walkOf}
+use Rattle.region_map.specs.Walk.{orElse, walk as walkOf}
+use Rattle.region_map.specs.Contracts.{triedIn}
 use Rattle.map_records.specs.Words.{mapOf}
 use Rattle.region_map.proofs.WalkLaws.{child-below, past, child-at, child-before, own-is, own-none, walk-alias, walk-inside, is-child, tried-none, tried-next}
 use borrow.Author.Needs.{needs}
@@ -165,8 +166,8 @@ walk-children-walk-children-requires-2 t c κs =
 -- the next child was walked: its answer comes before those of the others
 reached : (t : ℕ) (w : walk-children-lts.After-walk (children-calls t) (walk-children-at t) walk-children.Post)
     → let a = w .before .before .before .before .before .before .before .before .args in
-    tried (mapOf (a .map .now)) (walkBelow (mapOf (a .map .now)) (a .n)) (a .n) (a .below) (a .at .0)
-    ≡ orElse (w .walk .result) (tried (mapOf (a .map .now)) (walkBelow (mapOf (a .map .now)) (a .n)) (a .n) (w .before .before .before .before .before .before .next-child .result - 1) (a .at .0))
+    triedIn (mapOf (a .map .now)) (a .n) (a .below) (a .at .0)
+    ≡ orElse (w .walk .result) (triedIn (mapOf (a .map .now)) (a .n) (w .before .before .before .before .before .before .next-child .result - 1) (a .at .0))
 reached t w =
     let a = w .before .before .before .before .before .before .before .before .args in
     let m = mapOf (a .map .now) in
