@@ -697,11 +697,8 @@ fn parked(r: &mut Rng) -> (Vec<Node>, u64, Option<(u64, u64)>) {
         Meeting::Hidden => (r.below(end / 2), 2 * end, higher),
         _ => (r.below(2 * end), 1 + r.below(end), r.pick(&[-126, higher])),
     };
-    let mut cards = vec![
-        (first, level, true),
-        (second, level, true),
-        ((third.0, third.1), third.2, false),
-    ];
+    let mut cards =
+        vec![(first, level, true), (second, level, true), ((third.0, third.1), third.2, false)];
     let turn = r.below(3) as usize;
     cards.rotate_left(turn);
     if r.one_in(2) {
@@ -800,8 +797,30 @@ struct Defaults {
     answer: Option<Option<(u64, u64)>>,
 }
 
-/// Region 0 is what the first of the two shows where it is an alias or, up to a hole, a container; region 1 so
-/// for the second.
+/// Child i of region 4, and what it shows where it is an alias or, up to a hole, a container: region i.
+fn child_and_inner(r: &mut Rng, i: u64, mut child: Node, cursor: &mut u64) -> (Node, Node) {
+    let mut inner = Node { kind: r.pick(&[RAM, MMIO]), size: child.size, ..Node::default() };
+    match child.kind {
+        CONTAINER => {
+            inner.parent = i + 3;
+            inner.size = 1 + r.below(child.size);
+        }
+        ALIAS => child.target = i,
+        MMIO => child.port = i,
+        _ => {
+            child.start = *cursor;
+            *cursor += child.size;
+        }
+    }
+    if inner.kind == MMIO {
+        inner.port = 2 + i;
+    } else {
+        inner.start = *cursor;
+        *cursor += inner.size;
+    }
+    (child, inner)
+}
+
 fn defaults(r: &mut Rng) -> Defaults {
     let (kind_a, field_a, kind_b, field_b, mut shows) = r.pick(DEFAULTS);
     let mut sides = [(kind_a, field_a), (kind_b, field_b)];
@@ -812,41 +831,19 @@ fn defaults(r: &mut Rng) -> Defaults {
     let unit = r.pick(&[1, 16, 4096, 1 << 40]);
     let sizes = [unit * (1 + r.below(8)), unit * (1 + r.below(8))];
     let from = unit * r.below(4);
-    let mut offsets = [from, from + r.below(sizes[0])];
-    if r.one_in(2) {
-        offsets = [from + r.below(sizes[1]), from];
-    }
+    let first = r.below(2) as usize; // the one that begins first
+    let mut offsets = [from; 2];
+    offsets[1 - first] += r.below(sizes[first]);
     let mut nodes = vec![Node::default(); 4];
-    let mut cursor = 0;
-    for i in 0..2 {
-        let (kind, priority) = sides[i];
+    let mut memory_length = 0;
+    for (i, (kind, priority)) in sides.into_iter().enumerate() {
         let (offset, size) = (offsets[i], sizes[i]);
-        let mut child = Node { kind, parent: 5, offset, size, priority, ..Node::default() };
-        let mut inner = Node { kind: r.pick(&[RAM, MMIO]), size, ..Node::default() };
-        match kind {
-            CONTAINER => {
-                inner.parent = i as u64 + 3;
-                inner.size = 1 + r.below(size);
-            }
-            ALIAS => child.target = i as u64,
-            MMIO => child.port = i as u64,
-            _ => {
-                child.start = cursor;
-                cursor += size;
-            }
-        }
-        if inner.kind == MMIO {
-            inner.port = 2 + i as u64;
-        } else {
-            inner.start = cursor;
-            cursor += inner.size;
-        }
-        nodes[i] = inner;
-        nodes[i + 2] = child;
+        let child = Node { kind, parent: 5, offset, size, priority, ..Node::default() };
+        let (child, inner) = child_and_inner(r, i as u64, child, &mut memory_length);
+        (nodes[i], nodes[i + 2]) = (inner, child);
     }
     let end = (offsets[0] + sizes[0]).min(offsets[1] + sizes[1]);
-    let start = offsets[0].max(offsets[1]);
-    let mut shared = start + r.below(end - start);
+    let shared = offsets[1 - first] + r.below(end - offsets[1 - first]);
     let answer_of = |side: usize| {
         let offset = shared - offsets[side];
         match sides[side].0 {
@@ -856,16 +853,23 @@ fn defaults(r: &mut Rng) -> Defaults {
         }
     };
     let answer = shows.map(|side| answer_of(side).or(answer_of(1 - side)));
+    let shift = in_the_root(r, &mut nodes, end, unit);
+    Defaults { nodes, memory_length, shared: shared + shift, answer }
+}
+
+/// Region 4, which ends there or later, as the root, or moved in one above it: by how much.
+fn in_the_root(r: &mut Rng, nodes: &mut Vec<Node>, end: u64, unit: u64) -> u64 {
     let size = end + unit * r.below(8);
-    nodes.push(Node { kind: CONTAINER, size, ..Node::default() });
+    let mut bus = Node { kind: CONTAINER, size, ..Node::default() };
     if r.one_in(2) {
-        let offset = unit * r.below(8);
-        shared += offset;
-        nodes[4].parent = 6;
-        nodes[4].offset = offset;
-        nodes.push(Node { kind: CONTAINER, size: offset + size, ..Node::default() });
+        nodes.push(bus);
+        return 0;
     }
-    Defaults { nodes, memory_length: cursor, shared, answer }
+    bus.parent = 6;
+    bus.offset = unit * r.below(8);
+    nodes.push(bus);
+    nodes.push(Node { kind: CONTAINER, size: bus.offset + size, ..Node::default() });
+    bus.offset
 }
 
 /// "That map with field 127 at each MMIO node that has 0."
