@@ -56,8 +56,11 @@ pub fn steps(cases: u64) -> Numbers {
     let mut numbers = Numbers::new();
     for case in 0..cases {
         let kind = [(0u16, 64u16), (1, 64), (3, 1), (2, 0)][case as usize % 4];
-        let make =
-            || if case % 3 == 0 { stages::small_guest(&[kind]) } else { stages::guest(4, &[kind]) };
+        let make = || match case % 3 {
+            0 => stages::small_guest(&[kind]),
+            1 => stages::plugged_guest(&[kind]),
+            _ => stages::guest(4, &[kind]),
+        };
         let mut ours: Guest = make();
         let queue_memory = ours.memory.len() - 65536;
         disturb(&mut random, &mut ours.view, &mut ours.device, &mut ours.queue);

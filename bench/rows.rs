@@ -203,7 +203,15 @@ fn run_row(name: String, group: String, make: Maker, bars: Vec<Bar>) -> Row {
 
 /// What the chains ask for: a name, and the requests (type and blocks) that take turns.
 const WORKS: [(&str, &[(u16, u16)]); 2] =
-    [("STATE", &[(3, 1)]), ("PLUG and UNPLUG of 64 blocks in turn", &[(0, 64), (1, 64)])];
+    [("STATE", &[(3, 1)]), ("PLUG and UNPLUG of 64 blocks in turn", PLUG_UNPLUG)];
+const PLUG_UNPLUG: &[(u16, u16)] = &[(0, 64), (1, 64)];
+
+/// In the rows of `WORKS` nothing is plugged when a PLUG comes; in these it has most to count.
+const COUNTING: &str = "PLUG and UNPLUG of 64 blocks beside 960 plugged, a small host of 3 ranges";
+
+fn counting() -> Maker {
+    Rc::new(|| stages::plugged_guest(PLUG_UNPLUG))
+}
 
 /// `wt_step`, which judges all records on each call.
 pub fn step() -> Vec<Row> {
@@ -226,6 +234,7 @@ pub fn step() -> Vec<Row> {
             vec![Bar::Instructions(3000.0)],
         ));
     }
+    rows.push(step_row(format!("wt_step, {COUNTING}"), String::new(), counting(), vec![]));
     rows
 }
 
@@ -244,6 +253,7 @@ pub fn run() -> Vec<Row> {
             ));
         }
     }
+    rows.push(run_row(format!("wt_run of 256, {COUNTING}"), String::new(), counting(), vec![]));
     rows
 }
 

@@ -90,11 +90,28 @@ pub fn guest(count: u64, requests: &[(u16, u16)]) -> Guest {
     let start = count * 8192;
     let mut runs = pages(count - 1);
     runs.push(queue_range(start));
-    guest_in(&runs, start, requests)
+    guest_in(&runs, empty_device(), start, requests)
+}
+
+/// A device of 512 blocks, none of them plugged.
+fn empty_device() -> model::Device {
+    model::Device::fresh(BLOCK, DEVICE_ADDR, 512 * BLOCK, 512 * BLOCK, 256 * BLOCK).unwrap()
 }
 
 /// A small host: RAM with the queue, then a device's registers, then the managed region.
 pub fn small_guest(requests: &[(u16, u16)]) -> Guest {
+    small_host(empty_device(), requests)
+}
+
+/// The same host with a device of 1,024 blocks, all plugged but the first 64: a PLUG has fifteen full words to count.
+pub fn plugged_guest(requests: &[(u16, u16)]) -> Guest {
+    let blocks = 1024 * BLOCK;
+    let mut device = model::Device::fresh(BLOCK, DEVICE_ADDR, blocks, blocks, blocks).unwrap();
+    device.plugged[64..].fill(true);
+    small_host(device, requests)
+}
+
+fn small_host(device: model::Device, requests: &[(u16, u16)]) -> Guest {
     let at = |first, size, node, kind, base| Run {
         first,
         last: first + size - 1,
@@ -106,9 +123,9 @@ pub fn small_guest(requests: &[(u16, u16)]) -> Guest {
     let runs = [
         queue_range(0),
         at(1 << 20, 4096, 1, MMIO, 5),
-        at(DEVICE_ADDR, 512 * BLOCK, 2, MANAGED, 0),
+        at(DEVICE_ADDR, device.region, 2, MANAGED, 0),
     ];
-    guest_in(&runs, 0, requests)
+    guest_in(&runs, device, 0, requests)
 }
 
 /// RAM of 64 KiB behind the memory of the pages.
@@ -117,7 +134,7 @@ fn queue_range(start: u64) -> Run {
 }
 
 /// The queue lies from address `start` on, in the range of `queue_range`.
-fn guest_in(runs: &[Run], start: u64, requests: &[(u16, u16)]) -> Guest {
+fn guest_in(runs: &[Run], device: model::Device, start: u64, requests: &[(u16, u16)]) -> Guest {
     let place = PAGES_MEMORY;
     let mut memory = vec![0u8; place as usize + 65536];
     let mut put = |at: u64, bytes: &[u8]| {
@@ -144,8 +161,6 @@ fn guest_in(runs: &[Run], start: u64, requests: &[(u16, u16)]) -> Guest {
         let head = 2 * (entry % requests.len() as u64) as u16;
         put(0x2004 + 2 * entry, &head.to_le_bytes());
     }
-    let device =
-        model::Device::fresh(BLOCK, DEVICE_ADDR, 512 * BLOCK, 512 * BLOCK, 256 * BLOCK).unwrap();
     Guest::new(runs, device, start, memory, place as usize)
 }
 

@@ -41,7 +41,7 @@
  * goes up when nothing that a host can rely on is different. What went up sets those after it to 0. */
 #define WT_VERSION_MAJOR 2
 #define WT_VERSION_MINOR 0
-#define WT_VERSION_PATCH 0
+#define WT_VERSION_PATCH 1
 
 /* What a call returns: docs/REFUSALS.md. */
 enum wt_number {

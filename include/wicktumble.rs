@@ -7,7 +7,7 @@
 
 pub const WT_VERSION_MAJOR: u64 = 2;
 pub const WT_VERSION_MINOR: u64 = 0;
-pub const WT_VERSION_PATCH: u64 = 0;
+pub const WT_VERSION_PATCH: u64 = 1;
 
 // What a call returns: docs/REFUSALS.md.
 pub const WT_DONE: u64 = 0;

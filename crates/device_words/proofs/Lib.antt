@@ -1,5 +1,6 @@
 pub mod AnswerLaws
 pub mod ByteLaws
+pub mod CountOnes
 pub mod DeviceWords
 pub mod Kept
 pub mod RespondLaws

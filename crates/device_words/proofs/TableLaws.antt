@@ -310,21 +310,9 @@ module _ (t u : List ℕ) (i : ℕ) where
 
 -- ---- one more step of a count
 
-pub bits-next : (w n : ℕ) → bitsIn w (n + 1) ≡ bitsIn w n + cond (bitOf w n) 1 0
-unfolding bitsIn
-bits-next w n = ap (bitsIn w) (add-one n)
-
 pub set-next : (t : List ℕ) (n : ℕ) → setIn t (n + 1) ≡ setIn t n + bitsIn (getD t n 0) 64
 unfolding setIn
 set-next t n = ap (setIn t) (add-one n)
-
-pub counted : (b : Bool) (m x : ℕ) → b ≡ true → m ≡ x → m + 1 ≡ x + cond b 1 0
-counted true m x e h = omega arith
-counted false m x e h = absurd (never (sym e))
-
-pub passed : (b : Bool) (m x : ℕ) → b ≡ false → m ≡ x → m ≡ x + cond b 1 0
-passed true m x e h = absurd (never e)
-passed false m x e h = omega arith
 
 pub same-end : {i n : ℕ} → i ≤ n → n ≤ i → i ≡ n
 same-end p q = omega arith

@@ -110,20 +110,17 @@ pub fn all_set(words: &[u64], from: usize, n: usize) -> bool
     run_is(words, from, n, true)
 }
 
-// How many bits of a word are set.
+// How many bits of a word are set, by the language's own count of ones. That it is this number is proved once, for every
+// word (`ones-bits` in proofs/CountOnes.antt). In a table's word each bit is a block, so this is how many of its 64
+// blocks are set.
 fn ones(word: u64) -> u64
     ensures { λ r. ⌜ (r ≡ bitsIn word 64) × (r ≤ 64) ⌝ }
 {
-    let mut count: u64 = 0;
-    for k in 0..64u64 {
-        if (word >> k) % 2 == 1 {
-            count += 1;
-        }
-    }
-    count
+    u64::count_ones(word) as u64
 }
 
-// How many blocks are set.
+// How many blocks are set. Block b is bit b % 64 of word b / 64: each of the 1,024 blocks is one bit of one of the
+// sixteen words, so the ones of all words together count every set block, and none twice (`set-held`, likewise).
 pub fn total(words: &[u64]) -> u64
     requires { ⌜ length (now words) ≡ 16 ⌝ }
     ensures { λ r. ⌜ (r ≡ setIn (now (words .entry)) 16) × (r ≤ 1024) ⌝ }
