@@ -1316,6 +1316,11 @@ fn device_of(r: &mut Rng, block_size: u64, blocks: u64) -> Device {
         d.plugged[b] = r.below(8) < dense;
         d.pinned[b] = d.plugged[b] && r.below(8) < pins;
     }
+    if r.one_in(4) {
+        // One block counted too many or too few shows in the answer to a PLUG.
+        let plugged = d.plugged.iter().filter(|&&p| p).count() as u64;
+        d.requested = block_size * usable.min(plugged + r.below(3));
+    }
     d
 }
 
