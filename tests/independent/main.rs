@@ -128,6 +128,7 @@ struct Tally {
     served: u64,
     notified: u64,
     idle: u64,
+    laws: [u64; LAWS.len()],
 }
 
 /// Makes the call on both sides from one state. Err: what differs.
@@ -1572,10 +1573,25 @@ fn random_request(r: &mut Rng, d: &Device, near: Option<u64>) -> [u8; 24] {
         4 => r.below(6) as u16,
         _ => 1 + r.below(2) as u16,
     };
+    put_request(&mut request, kind, addr, count);
+    request
+}
+
+/// A request's fields; its padding stays as it is.
+fn put_request(request: &mut [u8], kind: u16, addr: u64, count: u16) {
     request[0..2].copy_from_slice(&kind.to_le_bytes());
     request[8..16].copy_from_slice(&addr.to_le_bytes());
     request[16..18].copy_from_slice(&count.to_le_bytes());
-    request
+}
+
+fn request_both(tally: &mut Tally, state: &mut State) -> Result<u64, String> {
+    both(
+        tally,
+        "wt_request",
+        state,
+        |s| s.device_and_bytes(ffi::request),
+        |s| s.device_and_bytes(calls::request),
+    )
 }
 
 /// Requests one after the other on one record, and bytes of its region.
@@ -1598,13 +1614,7 @@ fn request_case(r: &mut Rng, tally: &mut Tally) -> Result<(), String> {
     };
     for _ in 0..6 {
         state.bytes[0].1[..REQUEST].copy_from_slice(&random_request(r, &d, None));
-        both(
-            tally,
-            "wt_request",
-            &mut state,
-            |s| s.device_and_bytes(ffi::request),
-            |s| s.device_and_bytes(calls::request),
-        )?;
+        request_both(tally, &mut state)?;
         state.numbers[0].1 = match r.below(6) {
             0 => edge(r),
             1 => shake(r, d.region),
@@ -1626,6 +1636,128 @@ fn request_case(r: &mut Rng, tally: &mut Tally) -> Result<(), String> {
                 calls::block_of_byte(device, n, result)
             },
         )?;
+    }
+    Ok(())
+}
+
+// ----------------------------------------------------------------------------- kind: laws for plugging
+
+/// What the laws of Req 09 must have met: how the parts of a PLUG in two were answered, an address that
+/// passes 2^64, with the part behind it acknowledged by itself, and a PLUG that an UNPLUG takes back.
+const LAWS: [&str; 9] = [
+    "ACK ACK",
+    "ACK NACK",
+    "ACK ERROR",
+    "NACK",
+    "ERROR",
+    "27",
+    "past 2^64",
+    "past 2^64, then ACK",
+    "undone",
+];
+
+/// One request for a run of blocks, with any padding: the response's type, or 27.
+fn ask_both(
+    r: &mut Rng,
+    tally: &mut Tally,
+    state: &mut State,
+    kind: u16,
+    addr: u64,
+    count: u64,
+) -> Result<u64, String> {
+    let request = &mut state.bytes[0].1;
+    *request = r.bytes(request.len());
+    put_request(request, kind, addr, count as u16);
+    let number = request_both(tally, state)?;
+    let response = &state.bytes[1].1;
+    Ok(if number == 0 { u16::from_le_bytes([response[0], response[1]]).into() } else { number })
+}
+
+/// Two runs of blocks, the second behind the first: an address, and how many blocks each has. Mostly
+/// they are free and usable, or one block more than is; seldom elsewhere, or so that the second one's
+/// address passes 2^64 and is a block of the device again.
+fn neighbours(r: &mut Rng, d: &Device) -> (u64, u64, u64) {
+    let usable = d.usable / d.block_size;
+    let free = |b: u64| b < usable && !d.plugged[b as usize];
+    let from = r.below(usable + 1);
+    let block = (from..usable).find(|&b| free(b)).unwrap_or(from);
+    let room = (block..).take_while(|&b| free(b)).count() as u64;
+    let total = match r.below(8) {
+        0 => r.pick(&[2, 3, 1024, 1025, 65535]),
+        1 => room + 1,
+        2 => room,
+        _ => 2 + r.below(room.saturating_sub(1)),
+    }
+    .max(2);
+    let n = 1 + if r.one_in(3) { r.below(2).min(total - 2) } else { r.below(total - 1) };
+    let addr = match r.below(16) {
+        0 => edge(r),
+        1 => (d.addr + d.block_size * block).wrapping_add(r.pick(&[1, 2048, d.block_size / 2])),
+        2 | 3 => (d.addr + d.block_size * block).wrapping_sub(d.block_size * n),
+        _ => d.addr + d.block_size * block,
+    };
+    (addr, n, total - n)
+}
+
+/// From one state: a PLUG in two parts is acknowledged exactly when one of all the blocks is, and leaves
+/// the same device; and an UNPLUG takes an acknowledged PLUG back. That holds whatever the model says.
+fn plugging_case(r: &mut Rng, tally: &mut Tally) -> Result<(), String> {
+    let mut d = random_device(r);
+    if r.one_in(2) {
+        // Free blocks between plugged ones.
+        let usable = (d.usable / d.block_size) as usize;
+        let from = r.below(usable as u64) as usize;
+        let to = usable.min(from + r.pick(&[2, 3, 64, 130, 1024]));
+        d.plugged[from..to].fill(false);
+        d.pinned[from..to].fill(false);
+    }
+    let (addr, n, m) = neighbours(r, &d);
+    if r.one_in(2) {
+        // Room for all of them, or for all but one, or for the first part alone.
+        let asked = r.pick(&[n + m, n + m - 1, n]);
+        d.requested = d.usable.min(d.plugged_size() + d.block_size * asked);
+    }
+    let mut words = d.words().to_vec();
+    if r.one_in(8) {
+        damage_device(r, &mut words);
+    }
+    let start = State {
+        words: vec![("device", guarded(r, &words), DEVICE)],
+        bytes: vec![("request", r.bytes(32), REQUEST), ("response", r.bytes(16), RESPONSE)],
+        numbers: vec![("address", addr), ("first blocks", n), ("blocks behind", m)],
+    };
+    let law = |holds: bool, what: String| {
+        holds.then_some(()).ok_or_else(|| format!("{what}\n--- input\n{}", start.show(None)))
+    };
+    let behind = addr.wrapping_add(n.wrapping_mul(words[0]));
+    let wraps = u128::from(addr) + u128::from(n) * u128::from(words[0]) >= 1 << 64;
+    let (mut two, mut one, mut back) = (start.clone(), start.clone(), start.clone());
+
+    let first = ask_both(r, tally, &mut two, 0, addr, n)?;
+    let second = ask_both(r, tally, &mut two, 0, behind, m)?;
+    let whole = ask_both(r, tally, &mut one, 0, addr, n + m)?;
+    let answers = format!("{first} and {second} for the parts, {whole} for the whole");
+    law((first == 0 && second == 0) == (whole == 0), answers.clone())?;
+    law(whole != 0 || two.words == one.words, format!("another device in two parts: {answers}"))?;
+    law(!wraps || (first != 0 && whole != 0), format!("past 2^64: {answers}"))?;
+    let undone = ask_both(r, tally, &mut back, 0, addr, n)? == 0;
+    if undone {
+        let answer = ask_both(r, tally, &mut back, 1, addr, n)?;
+        law(answer == 0, format!("UNPLUG answers {answer}"))?;
+        law(back.words == start.words, "UNPLUG gives another device back".to_string())?;
+    }
+    let way = match (first, second) {
+        (0, 0) => 0,
+        (0, 1) => 1,
+        (0, 3) => 2,
+        (1, _) => 3,
+        (3, _) => 4,
+        (27, 27) => 5,
+        _ => return law(false, answers),
+    };
+    let met = [(way, true), (6, wraps), (7, wraps && second == 0), (8, undone)];
+    for (index, _) in met.iter().filter(|(_, was)| *was) {
+        tally.laws[*index] += 1;
     }
     Ok(())
 }
@@ -2839,6 +2971,7 @@ const KINDS: &[&str] = &[
     "defaults",
     "set-up",
     "request",
+    "plugging",
     "route",
     "look-up",
     "queue",
@@ -2858,11 +2991,12 @@ fn one(kind: usize, seed: u64, tally: &mut Tally, noise: &[u8]) -> Result<(), St
         5 => defaults_case(r, tally),
         6 => host_case(r, tally),
         7 => request_case(r, tally),
-        8 => route_case(r, tally).and_then(|()| route_all_case(r, tally)),
-        9 => look_up_case(r, tally),
-        10 => queue_case(r, tally),
-        11 => step_case(r, tally, noise),
-        12 => run_case(r, tally, noise),
+        8 => plugging_case(r, tally),
+        9 => route_case(r, tally).and_then(|()| route_all_case(r, tally)),
+        10 => look_up_case(r, tally),
+        11 => queue_case(r, tally),
+        12 => step_case(r, tally, noise),
+        13 => run_case(r, tally, noise),
         _ => self_case(r, noise),
     }
 }
@@ -2960,11 +3094,18 @@ fn main() {
         tally.notified,
         tally.idle
     );
+    let laws: Vec<String> =
+        LAWS.iter().zip(tally.laws).map(|(way, n)| format!("{way}:{n}")).collect();
+    println!("laws for plugging: {}", laws.join("; "));
     let counts: Vec<String> = (1..28).map(|n| format!("{n}:{}", tally.numbers[n])).collect();
     let missing: Vec<usize> = (1..28).filter(|&n| tally.numbers[n] == 0).collect();
     println!("{} cases, 0 differences; refusals 1..27: {}", tally.cases, counts.join(" "));
     if !missing.is_empty() && only.is_none() {
         println!("FAILED: no input provoked the refusals {missing:?}");
+        std::process::exit(1);
+    }
+    if tally.laws.contains(&0) && only.is_none() {
+        println!("FAILED: the laws for plugging did not meet each of their ways");
         std::process::exit(1);
     }
 }

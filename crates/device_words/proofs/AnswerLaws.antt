@@ -56,35 +56,55 @@ module _ (d : MemoryDevice) (r : Request) where
   unfolding ahead
   in-test h k = range-test ahead (d .addr) (r .addr .0) (d .«usable_size») (r .blocks * d .«block_size») h k
 
+-- the blocks up to the usable part's end are in the table
+pub blocks-fit : (d : MemoryDevice) (a n : ℕ) → Sized d → a - d .addr + n * d .«block_size» ≤ d .«usable_size» → blockOf d a + n ≤ 1024
+blocks-fit d a n z h =
+    let b = d .«block_size» in
+    let k = blockOf d a in
+    le-of-mul-le-mul-right (omega (arith, add-mul k n b, div-mul-le-self (a - d .addr) b, h, z .room)) (z .some)
+
+-- the four parts of the range rule
+module _ (d : MemoryDevice) (r : Request) where
+  pub in-of : r .addr .0 % d .«block_size» ≡ 0 → 1 ≤ r .blocks → d .addr ≤ r .addr .0 → r .addr .0 - d .addr + r .blocks * d .«block_size» ≤ d .«usable_size» → inRange d r ≡ true
+  in-of aligned some above room =
+      rw (
+        eq-eqb (r .addr .0 % d .«block_size») 0 aligned,
+        le-leb 1 (r .blocks) some,
+        le-leb (d .addr) (r .addr .0) above,
+        le-leb (r .addr .0 - d .addr + r .blocks * d .«block_size») (d .«usable_size») room,
+      )
+
+  module _ (h : inRange d r ≡ true) where
+    in-parts : (eqb (r .addr .0 % d .«block_size») 0 ≡ true) × (leb 1 (r .blocks) ≡ true) × (leb (d .addr) (r .addr .0) ≡ true)
+        × (leb (r .addr .0 - d .addr + r .blocks * d .«block_size») (d .«usable_size») ≡ true)
+    in-parts =
+        four (eqb (r .addr .0 % d .«block_size») 0) (leb 1 (r .blocks)) (leb (d .addr) (r .addr .0)) (leb (r .addr .0 - d .addr + r .blocks * d .«block_size») (d .«usable_size»)) h
+      where
+        four : (w x y z : Bool) → (w && x && y && z) ≡ true → (w ≡ true) × (x ≡ true) × (y ≡ true) × (z ≡ true)
+        four w x y z e =
+            let three = and-fst (w && x && y) z e in
+            let two = and-fst (w && x) y three in
+            (and-fst w x two, and-snd w x two, and-snd (w && x) y three, and-snd (w && x && y) z e)
+
+    pub in-aligned : r .addr .0 % d .«block_size» ≡ 0
+    in-aligned = eqb-true (r .addr .0 % d .«block_size») 0 (in-parts .0)
+
+    pub in-some : 1 ≤ r .blocks
+    in-some = leb-true 1 (r .blocks) (in-parts .1)
+
+    pub in-above : d .addr ≤ r .addr .0
+    in-above = leb-true (d .addr) (r .addr .0) (in-parts .2)
+
+    pub in-end : r .addr .0 - d .addr + r .blocks * d .«block_size» ≤ d .«usable_size»
+    in-end = leb-true (r .addr .0 - d .addr + r .blocks * d .«block_size») (d .«usable_size») (in-parts .3)
+
 -- a request in range has its blocks in the table
 module _ (d : MemoryDevice) (r : Request) (z : Sized d) (h : inRange d r ≡ true) where
-  in-above : d .addr ≤ r .addr .0
-  in-above =
-      leb-true (d .addr) (r .addr .0)
-      (and-snd (eqb (r .addr .0 % d .«block_size») 0 && leb 1 (r .blocks)) (leb (d .addr) (r .addr .0))
-      (and-fst (eqb (r .addr .0 % d .«block_size») 0 && leb 1 (r .blocks) && leb (d .addr) (r .addr .0)) (leb (r .addr .0 - d .addr + r .blocks * d .«block_size») (d .«usable_size»)) h))
-
-  pub in-end : r .addr .0 - d .addr + r .blocks * d .«block_size» ≤ d .«usable_size»
-  in-end =
-      leb-true (r .addr .0 - d .addr + r .blocks * d .«block_size») (d .«usable_size»)
-      (and-snd (eqb (r .addr .0 % d .«block_size») 0 && leb 1 (r .blocks) && leb (d .addr) (r .addr .0)) (leb (r .addr .0 - d .addr + r .blocks * d .«block_size») (d .«usable_size»)) h)
-
-  in-some : 1 ≤ r .blocks
-  in-some =
-      leb-true 1 (r .blocks)
-      (and-snd (eqb (r .addr .0 % d .«block_size») 0) (leb 1 (r .blocks))
-      (and-fst (eqb (r .addr .0 % d .«block_size») 0 && leb 1 (r .blocks)) (leb (d .addr) (r .addr .0))
-      (and-fst (eqb (r .addr .0 % d .«block_size») 0 && leb 1 (r .blocks) && leb (d .addr) (r .addr .0)) (leb (r .addr .0 - d .addr + r .blocks * d .«block_size») (d .«usable_size»)) h)))
-
   in-blocks : blockOf d (r .addr .0) + r .blocks ≤ 1024
-  in-blocks =
-      let b = d .«block_size» in
-      let k = blockOf d (r .addr .0) in
-      le-of-mul-le-mul-right
-      (omega (arith, add-mul k (r .blocks) b, div-mul-le-self (r .addr .0 - d .addr) b, in-end, z .room)) (z .some)
+  in-blocks = blocks-fit d (r .addr .0) (r .blocks) z (in-end d r h)
 
   pub in-facts : (0 < d .«block_size») × (d .addr ≤ r .addr .0) × (blockOf d (r .addr .0) < 1024)
-  in-facts = (z .some, in-above, omega (arith, in-blocks, in-some))
+  in-facts = (z .some, in-above d r h, omega (arith, in-blocks, in-some d r h))
 
   pub in-run : (from : ℕ) → from ≡ blockOf d (r .addr .0) → Run d r from
   in-run from e = record { first = e; room = omega (arith, in-blocks) }

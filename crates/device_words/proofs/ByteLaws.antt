@@ -4,11 +4,15 @@ use mathlib.Core.Path.{_≡_, refl, sym, ap, _∙_}
 use mathlib.Core.List.{List, _∷_}
 use Prim.Native.Nat.{ℕ, zero, suc, _+_, _-_, _*_, _/_, _%_, _^_, _≤_, _<_}
 use native.Mathlib.Omega.{arith}
-use native.Mathlib.Nat.{add-zero, pow-suc, pow-le-pow-right, mod-eq-of-lt}
+use native.Mathlib.Nat.{add-zero, pow-suc, pow-le-pow-right, mod-eq-of-lt, mod-one, one-le-pow}
+use lib.Arith.{mod-mul}
+use lib.Dec.{lit<}
 use lib.ListN.{length, getD, set, replicate}
 use lib.Seq.{sets}
 use Rattle.map_records.proofs.StoreLaws.{over}
 use Rattle.device_words.specs.Bytes.{le, numberBy, number, responseBytes, configurationBytes}
+use Rattle.device_words.specs.Request.{requestOf, bytesOf}
+use Rattle.device_words.specs.declared.request.Request.{Request}
 
 pub le-length : (k n : ℕ) → length (le k n) ≡ k
 unfolding le
@@ -25,14 +29,23 @@ numbers-agree f g a b (suc k) h =
     numbers-agree f g (suc a) (suc b) k (λ i l. let x : suc a + i ≡ a + suc i = omega arith in let y : b + suc i ≡ suc b + i = omega arith in ap f x ∙ h (suc i) (omega arith) ∙ ap g y) in
     omega (arith, first, rest)
 
--- reading gives back what was written
-pub number-le : (k n : ℕ) → n < 256 ^ k → number (le k n) 0 k ≡ n
+-- reading gives back the k low bytes of what was written; all of it, where it has no more
+pub number-low : (k n : ℕ) → number (le k n) 0 k ≡ n % 256 ^ k
 unfolding numberBy le
-number-le zero n h = omega arith
-number-le (suc k) n h =
+number-low zero n = sym (mod-one n)
+number-low (suc k) n =
     let tail : number (n % 256 ∷ le k (n / 256)) 1 k ≡ number (le k (n / 256)) 0 k =
     numbers-agree (λ i. getD (n % 256 ∷ le k (n / 256)) i 0) (λ i. getD (le k (n / 256)) i 0) 1 0 k (λ i l. let x : 1 + i ≡ suc i = omega arith in let y : 0 + i ≡ i = omega arith in rw (x, y)) in
-    omega (arith, tail, number-le k (n / 256) (omega (arith, pow-suc 256 k)))
+    let low : n % 256 ^ suc k ≡ n / 256 % 256 ^ k * 256 + n % 256 = ap (λ (x : ℕ). n % x) (pow-suc 256 k) ∙ mod-mul n {m = 256 ^ k} {c = 256} (one-le-pow k 256 (lit< tt)) (lit< tt) in
+    omega (arith, tail, number-low k (n / 256), low)
+
+pub number-le : (k n : ℕ) → n < 256 ^ k → number (le k n) 0 k ≡ n
+number-le k n h = number-low k n ∙ mod-eq-of-lt h
+
+-- so of a request's 24 bytes: each field reads back, cut to its bytes; whole, where it has no more
+pub request-low : (r : Request) → requestOf (bytesOf r) ≡ record { kind = r .kind % 65536; addr = record { 0 = r .addr .0 % 2 ^ 64 }; blocks = r .blocks % 65536 }
+unfolding bytesOf numberBy le
+request-low r = rw (number-low 2 (r .kind), number-low 8 (r .addr .0), number-low 2 (r .blocks))
 
 -- the state of a loop that reads k bytes from the last to the first, with i of them left
 pub record Reading (byte : ℕ → ℕ) (at k value i : ℕ) : Type 0 where

@@ -2,14 +2,19 @@
 use mathlib.Core.Path.{_≡_, refl, sym, ap, _∙_}
 use mathlib.Core.Bool.{Bool, true, false, _&&_}
 use mathlib.Core.List.{List, [], _∷_, _++_, append-nil}
-use Prim.Native.Nat.{ℕ}
+use mathlib.Core.Logic.{⊎-elim}
+use Prim.Native.Nat.{ℕ, _+_, _^_, _<_}
 use native.Mathlib.Omega.{arith}
-use lib.ListN.{length, take, drop, length-append, length-take, length-drop, take-append-drop, drop-of-length-le}
-use lib.Seq.{take-all, take-at, drop-at}
+use lib.Dec.{lit<}
+use lib.ListN.{length, getD, take, drop, length-append, length-take, length-drop, take-append-drop, drop-of-length-le}
+use lib.Seq.{take-all, take-at, drop-at, getD-take, getD-drop}
 use borrow.Author.Tests.{eq-eqb, ne-eqb, eqb-true, eqb-false}
+use Rattle.map_records.proofs.Order.{eq-or-not}
 use Rattle.map_check.proofs.Bools.{and-fst, and-snd}
+use Rattle.device_words.specs.Table.{IsTable}
 use Rattle.device_words.specs.Device.{MemoryDevice, noDevice, withTables, withPlugged, withPins, powerBelow, setupOk, deviceOk}
 use Rattle.device_words.specs.Words.{isDevice, deviceAt, deviceOf, deviceWords}
+use Rattle.device_words.proofs.TableLaws.{zero-word}
 
 -- what words stand for
 pub device-at : (w : List ℕ) → length w ≡ 37 → deviceOf w ≡ deviceAt w
@@ -31,6 +36,15 @@ plugged-length w l = omega (arith, length-take 16 (drop 5 w), length-drop 5 w)
 
 pub pins-length : (w : List ℕ) → length w ≡ 37 → length (take 16 (drop 21 w)) ≡ 16
 pins-length w l = omega (arith, length-take 16 (drop 21 w), length-drop 21 w)
+
+-- the plug table of words of 64 bits, however many there are, is sixteen such words
+pub words-table : (w : List ℕ) → ((i : ℕ) → getD w i 0 < 2 ^ 64) → IsTable (deviceOf w .plugged)
+words-table w h =
+    ⊎-elim
+    (λ (l : length w ≡ 37). rw (device-at w l)
+    (record { size = plugged-length w l; words = λ i p. rw (getD-take 16 (drop 5 w) i 0 p, getD-drop 5 w i 0) (h (5 + i)) }))
+    (λ n. rw (device-none w n) (record { size = refl; words = λ i p. rw (zero-word 16 i) (lit< tt) }))
+    (eq-or-not (length w) 37)
 
 -- the two halves of 32 words
 pub halves : (v : List ℕ) → length v ≡ 32 → take 16 v ++ take 16 (drop 16 v) ≡ v

@@ -17,7 +17,7 @@ use Rattle.device_words.specs.declared.request.Response.the-variants as 
 use Rattle.device_words.proofs.TableLaws.{table-bit, zero-bit}
 use Rattle.device_words.proofs.WordLaws.{none-of}
 use Rattle.device_words.proofs.AnswerLaws.{in-end, ack-range, ack-kind, all-answer, unplug-answer}
-use Rattle.device_words.proofs.RuleLaws.{implies-of, only-of, setup-ruled, device-valid, valid-sizes, blocks-mono}
+use Rattle.device_words.proofs.RuleLaws.{implies-of, only-of, setup-ruled, device-valid, blocks-mono}
 
 -- the setup part of a record that keeps its rules
 pub setup-of : (d : MemoryDevice) → deviceOk d ≡ true → setupKept d ≡ true
@@ -93,7 +93,7 @@ module _ (d : MemoryDevice) (r : Request) (h : deviceOk d ≡ true) (i : inRange
       let k = blockOf d (r .addr .0) in
       let z = inside-run k (r .blocks) b w in
       le-div-iff-mul-le (let p : 0 < s = omega (arith, v .least) in p) .1
-      (omega (arith, mul-le-mul-right s (let q : suc b ≤ k + r .blocks = omega arith in q), add-mul k (r .blocks) s, div-mul-le-self (r .addr .0 - d .addr) s, in-end d r (valid-sizes d v) i))
+      (omega (arith, mul-le-mul-right s (let q : suc b ≤ k + r .blocks = omega arith in q), add-mul k (r .blocks) s, div-mul-le-self (r .addr .0 - d .addr) s, in-end d r i))
 
   run-unpinned : anyPinned d (blockOf d (r .addr .0)) (r .blocks) ≡ false → (b : ℕ) → within (blockOf d (r .addr .0)) (r .blocks) b ≡ true → isPinned d b ≡ false
   run-unpinned n b w =

@@ -3,7 +3,9 @@ pub mod ByteLaws
 pub mod CountOnes
 pub mod DeviceWords
 pub mod Kept
+pub mod PlugLaws
 pub mod RespondLaws
 pub mod RuleLaws
+pub mod RunLaws
 pub mod TableLaws
 pub mod WordLaws

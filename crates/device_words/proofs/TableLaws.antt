@@ -129,6 +129,13 @@ table-ext t f size fits bits =
     ∙ word-ext (bitOf (getD t i 0)) (λ k. f (i * 64 + k)) 64 (λ k q. sym (block t i k q) ∙ bits (i * 64 + k) (omega arith))
     ∙ sym (table-word f i h))
 
+-- two tables with the same blocks are equal
+pub table-same : (f g : ℕ → Bool) → ((b : ℕ) → b < 1024 → f b ≡ g b) → tableOf f ≡ tableOf g
+table-same f g h =
+    table-ext (tableOf f) g (table-length f)
+    (λ i l. subst (λ (x : ℕ). x < 2 ^ 64) (sym (table-word f i l)) (word-lt (λ k. f (i * 64 + k)) 64))
+    (λ b l. table-bit f b l ∙ h b l)
+
 -- ---- a test of every block
 
 pub all-true : (f : ℕ → Bool) (n : ℕ) → allBelow f n ≡ true → (b : ℕ) → b < n → f b ≡ true

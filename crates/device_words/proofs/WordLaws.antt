@@ -77,13 +77,13 @@ xor-bit a b k =
     ap (λ (x : ℕ). eqb x 1) (ap (λ (x : ℕ). x % 2) (xor-shr a b k) ∙ xor-mod (a / 2 ^ k) (b / 2 ^ k) 1)
     ∙ xor-digit (a / 2 ^ k % 2) (b / 2 ^ k % 2) (mod-lt (a / 2 ^ k) (lit< tt)) (mod-lt (b / 2 ^ k) (lit< tt))
 
-within-in : (from n b : ℕ) → from ≤ b → b < from + n → within from n b ≡ true
+pub within-in : (from n b : ℕ) → from ≤ b → b < from + n → within from n b ≡ true
 within-in from n b p q = simp (le-leb from b p, lt-ltb b (from + n) q)
 
-within-before : (from n b : ℕ) → b < from → within from n b ≡ false
+pub within-before : (from n b : ℕ) → b < from → within from n b ≡ false
 within-before from n b p = simp (lt-leb from b p)
 
-within-after : (from n b : ℕ) → from + n ≤ b → within from n b ≡ false
+pub within-after : (from n b : ℕ) → from + n ≤ b → within from n b ≡ false
 within-after from n b p = simp (le-leb from b (omega arith), le-ltb b (from + n) p)
 
 -- below the run's end, but not below its start
@@ -136,7 +136,7 @@ module _ (start from n to before w : ℕ) (p : to ≡ wordOf (λ k. ltb (start +
 
 -- ---- every block of a run set, or none
 
-held-of : (t : List ℕ) (from n : ℕ) (on : Bool) → ((b : ℕ) → b < n → bitAt t (from + b) ≡ on) → heldIn t from n ≡ cond on n 0
+pub held-of : (t : List ℕ) (from n : ℕ) (on : Bool) → ((b : ℕ) → b < n → bitAt t (from + b) ≡ on) → heldIn t from n ≡ cond on n 0
 unfolding heldIn
 held-of t from zero true h = refl
 held-of t from zero false h = refl
@@ -188,7 +188,7 @@ module _ (t : List ℕ) (from n : ℕ) (on : Bool) where
   pub alike-all : (i : ℕ) → from + n ≤ i * 64 → Alike t from n on i → eqb (heldIn t from n) (cond on n 0) ≡ true
   alike-all i h all = eq-eqb (heldIn t from n) (cond on n 0) (held-of t from n on (λ b p. all (from + b) (omega arith) (omega arith) (omega arith)))
 
-  stays : (b : ℕ) → heldIn t from n ≡ cond on n 0 → bitAt t b ≡ cond (within from n b) on (bitAt t b)
+  pub stays : (b : ℕ) → heldIn t from n ≡ cond on n 0 → bitAt t b ≡ cond (within from n b) on (bitAt t b)
   stays b e =
       ⊎-elim
       (λ lt. sym (ap (λ (x : Bool). cond x on (bitAt t b)) (within-before from n b lt)))
@@ -280,6 +280,11 @@ none-of f zero e b h = absurd (omega arith)
 none-of f (suc n) e b h =
     ⊎-elim (λ (s : b ≡ n). ap f s ∙ or-right (anyBelow f n) (f n) e) (λ s. none-of f n (or-left (anyBelow f n) (f n) e) b s)
     (eq-or-lt-of-le {n = b} {m = n} (omega arith))
+
+pub any-none : (f : ℕ → Bool) (n : ℕ) → ((b : ℕ) → b < n → f b ≡ false) → anyBelow f n ≡ false
+unfolding anyBelow
+any-none f zero h = refl
+any-none f (suc n) h = rw (any-none f n (λ b p. h b (omega arith)), h n (omega arith))
 
 -- a run of one
 pub any-one : (f : ℕ → Bool) (b : ℕ) → anyBelow (λ i. f (b + i)) 1 ≡ f b

@@ -1,10 +1,11 @@
 -- The guest's requests: the range rule, the order of the checks, and the change of the table, each by itself. Assumes nothing: these are definitions.
 use mathlib.Core.Bool.{Bool, true, false, cond, _&&_}
-use mathlib.Core.List.{List}
+use mathlib.Core.List.{List, _++_}
 use Prim.Native.Nat.{ℕ, _+_, _-_, _*_, _/_, _%_}
 use lib.Dec.{eqb, leb, ltb}
+use lib.ListN.{replicate}
 use Rattle.map_check.specs.Reply.{Reply, accepted}
-use Rattle.device_words.specs.Bytes.{number, responseBytes}
+use Rattle.device_words.specs.Bytes.{le, number, responseBytes}
 use Rattle.device_words.specs.Table.{turned, heldIn}
 use Rattle.device_words.specs.Device.{MemoryDevice, anyPinned, noBlocks, withPlugged, pluggedSize}
 use Rattle.device_words.specs.declared.request.Request.{Request}
@@ -27,6 +28,20 @@ state = 3
 -- 'Requests: 24 bytes .. little-endian; padding is ignored in': source 000's layout
 abbrev pub requestOf : List ℕ → Request
 requestOf s = record { kind = number s 0 2; addr = record { 0 = number s 8 8 }; blocks = number s 16 2 }
+
+-- the same layout written, padding 0: as many of a number's low bytes as its field has
+unfoldable pub bytesOf : Request → List ℕ
+bytesOf r = le 2 (r .kind) ++ replicate 6 0 ++ le 8 (r .addr .0) ++ le 2 (r .blocks) ++ replicate 6 0
+
+-- a request of a type for the run of n blocks from an address on; a PLUG, and an UNPLUG, of that run
+abbrev pub forRun : ℕ → ℕ → ℕ → Request
+forRun kind a n = record { kind = kind; addr = record { 0 = a }; blocks = n }
+
+abbrev pub plugRun : ℕ → ℕ → Request
+plugRun = forRun plug
+
+abbrev pub unplugRun : ℕ → ℕ → Request
+unplugRun = forRun unplug
 
 -- 'ACK 0, NACK 1, BUSY 2, ERROR 3', and the state: 'zero except in an acknowledged STATE', 0 all plugged, 1 all unplugged, 2 mixed
 abbrev pub typeOf : Response → ℕ

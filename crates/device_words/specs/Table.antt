@@ -1,9 +1,15 @@
 -- A table of 1,024 blocks in sixteen words of 64 bits, block b in bit b % 64 of word b / 64. Assumes nothing: these are definitions.
 use mathlib.Core.Bool.{Bool, true, false, cond, _&&_, _||_, not}
 use mathlib.Core.List.{List, [], _∷_}
-use Prim.Native.Nat.{ℕ, zero, suc, _+_, _*_, _/_, _%_, _^_}
+use mathlib.Core.Path.{_≡_}
+use Prim.Native.Nat.{ℕ, zero, suc, _+_, _*_, _/_, _%_, _^_, _<_}
 use lib.Dec.{eqb, leb, ltb}
-use lib.ListN.{getD}
+use lib.ListN.{length, getD}
+
+-- sixteen words of 64 bits: what the type of a table in the code, [u64; 16], says
+pub record IsTable (t : List ℕ) : Type 0 where
+  pub size : length t ≡ 16
+  pub words : (i : ℕ) → i < 16 → getD t i 0 < 2 ^ 64
 
 -- bit k of a word
 abbrev pub bitOf : ℕ → ℕ → Bool

@@ -4,3 +4,4 @@ pub mod Host
 pub mod Request
 pub mod Lent
 pub mod Calls
+pub mod LawsForPlugging

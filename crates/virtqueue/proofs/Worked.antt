@@ -5,7 +5,7 @@ use Rattle.region_map.specs.FlatList.{inside}
 use Rattle.device_words.specs.Bytes.{le, numberBy, responseBytes}
 use Rattle.device_words.specs.Table.{wordOf, wordsOf, tableOf, heldIn, bitsIn, setIn, allBelow, anyBelow}
 use Rattle.device_words.specs.Device.{powerBelow, setupOk, tablesOk, deviceOk, pluggedSize}
-use Rattle.device_words.specs.Request.{answered, changedBy}
+use Rattle.device_words.specs.Request.{bytesOf, answered, changedBy}
 use Rattle.guest_view.specs.Guest.{leafAt, allReach, addresses, written}
 use Rattle.guest_view.specs.View.{rangeOk, entryOk, viewOk}
 use Rattle.memory_device.specs.Host.{pinned}
@@ -15,8 +15,8 @@ use Rattle.virtqueue.specs.Queue.{areasOk, queueOk}
 use Rattle.virtqueue.specs.Chain.{visit, follow, endOf, readable, writable, total, firstBytes, shapeOf, descriptorAt, fetched, chainAt}
 use Rattle.virtqueue.specs.Step.{wayOf, usedReached, offerChain, requestBytes, responsePlaces, usedPlaces, usedBytes, carrying, steppedBy, recordsOk, stepped}
 use Rattle.virtqueue.specs.Run.{stepsBy, ran}
-use Rattle.virtqueue.specs.Worked.{Row, sent, rows, device₀, view, queue, memory, answerTo}
+use Rattle.virtqueue.specs.Worked.{Row, rows, device₀, view, queue, memory, answerTo}
 
 pub worked-values : map (λ (r : Row). answerTo (r .question)) rows ≡ map (λ (r : Row). r .answer) rows
-unfolding sent rows device₀ view queue memory answerTo le numberBy responseBytes wordOf wordsOf tableOf heldIn bitsIn setIn allBelow anyBelow powerBelow setupOk tablesOk deviceOk pluggedSize answered changedBy inside leafAt allReach addresses written rangeOk entryOk viewOk pinned carriedInto after areasOk queueOk visit follow endOf readable writable total firstBytes shapeOf descriptorAt fetched chainAt wayOf usedReached offerChain requestBytes responsePlaces usedPlaces usedBytes carrying steppedBy recordsOk stepped stepsBy ran
+unfolding bytesOf rows device₀ view queue memory answerTo le numberBy responseBytes wordOf wordsOf tableOf heldIn bitsIn setIn allBelow anyBelow powerBelow setupOk tablesOk deviceOk pluggedSize answered changedBy inside leafAt allReach addresses written rangeOk entryOk viewOk pinned carriedInto after areasOk queueOk visit follow endOf readable writable total firstBytes shapeOf descriptorAt fetched chainAt wayOf usedReached offerChain requestBytes responsePlaces usedPlaces usedBytes carrying steppedBy recordsOk stepped stepsBy ran
 worked-values = refl

@@ -8,7 +8,7 @@ use Rattle.map_records.specs.declared.view.FlatView.{FlatView}
 use Rattle.map_check.specs.Reply.{passes, numberOf}
 use Rattle.device_words.specs.Bytes.{le}
 use Rattle.device_words.specs.Device.{MemoryDevice}
-use Rattle.device_words.specs.Request.{Outcome}
+use Rattle.device_words.specs.Request.{Outcome, bytesOf, forRun}
 use Rattle.memory_device.specs.Request.{carried}
 use Rattle.memory_device.specs.SetUp.{valued}
 use Rattle.memory_device.specs.Calls as device
@@ -33,9 +33,9 @@ pub record Row : Type 0 where
 abbrev pub row : Question → Answer → Row
 row q x = record { question = q; answer = x }
 
--- 'Requests: 24 bytes': type, padding, address, number of blocks, padding, little-endian. 'Types PLUG 0, UNPLUG 1, UNPLUG ALL 2, STATE 3'
-unfoldable pub sent : ℕ → ℕ → ℕ → List ℕ
-sent kind addr blocks = le 2 kind ++ replicate 6 0 ++ le 8 addr ++ le 2 blocks ++ replicate 6 0
+-- the 24 bytes of a request. 'Types PLUG 0, UNPLUG 1, UNPLUG ALL 2, STATE 3'
+abbrev pub sent : ℕ → ℕ → ℕ → List ℕ
+sent kind addr blocks = bytesOf (forRun kind addr blocks)
 
 abbrev pub plug : ℕ → ℕ → List ℕ
 plug = sent 0
