@@ -11,12 +11,17 @@ use Rattle.device_words.specs.Table.{IsTable, bitAt, turned, heldIn, set
 use Rattle.device_words.specs.Device.{MemoryDevice, pinnedIn, isPinned, anyPinned, withPlugged, pluggedSize}
 use Rattle.device_words.specs.Contracts.{Valid}
 use Rattle.device_words.specs.Request.{plugRun, unplugRun, blockOf, inRange, heldOf, alreadyPlugged, overRequested, answered, isAck}
+use Rattle.device_words.specs.declared.request.Response.{Response}
 use Rattle.device_words.specs.declared.request.Response.the-variants as response
 use Rattle.device_words.proofs.TableLaws.{held-none}
 use Rattle.device_words.proofs.WordLaws.{within-after, any-none}
 use Rattle.device_words.proofs.RunLaws.{turned-both, turned-back, held-both, held-turned, held-apart, set-turned}
 use Rattle.device_words.proofs.RuleLaws.{valid-sizes}
 use Rattle.device_words.proofs.AnswerLaws.{in-of, in-aligned, in-some, in-above, in-end, blocks-fit}
+
+-- the answer to a PLUG by its three checks: the range, a block already plugged, more than requested
+abbrev pub byChecks : Bool → Bool → Bool → Response
+byChecks x y z = cond x (cond y response.Error (cond z response.Nack response.Ack)) response.Error
 
 -- what an acknowledged PLUG of the n blocks from an address on has kept
 pub record Plugs (d : MemoryDevice) (a n : ℕ) : Type 0 where
@@ -50,7 +55,7 @@ module _ (d : MemoryDevice) (a n : ℕ) where
             (not-true (overRequested d r) (and-snd (inRange d r && not (alreadyPlugged d r)) (not (overRequested d r)) t));
       }
     where
-      all : (x y z : Bool) → isAck (cond x (cond y response.Error (cond z response.Nack response.Ack)) response.Error) ≡ (x && not y && not z)
+      all : (x y z : Bool) → isAck (byChecks x y z) ≡ (x && not y && not z)
       all true true z = refl
       all true false true = refl
       all true false false = refl

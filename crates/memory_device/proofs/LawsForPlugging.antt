@@ -1,19 +1,21 @@
 -- Req 09: two laws for plugging. Assumes nothing.
 --
--- First: a PLUG of n blocks and then one of the m blocks that follow are both acknowledged exactly when one PLUG of n + m blocks is; and then
--- both ways leave the same device, word for word (`plug-in-two`). It makes no difference whether a run is plugged at once or in two parts.
+-- First, `plug-in-two`: a PLUG of n blocks and then one of the m blocks that follow are both acknowledged exactly when one PLUG of n + m
+-- blocks is; and then both ways leave the same device, word for word.
 --
--- Second: after an acknowledged PLUG an UNPLUG of the same run is acknowledged, and gives the device back, word for word (`plug-undone`).
+-- Second, `plug-undone`: after an acknowledged PLUG an UNPLUG of the same run is acknowledged, and gives the device back, word for word.
 --
--- Between the two requests the device is left alone: the second one is carried out on the state that the first one gives. `carried` is the
--- public definition by which `carry_out` answers: 27 first, then the bytes of the request; it gives the answer, the response and the next state.
--- The laws with `-seen` are the same, said of the 24 bytes that a guest sends and the ten that it gets.
+-- No host call and no other request comes between the two: the second is carried out on the state that the first one left. `carried` is the
+-- public definition, by which `carry_out` answers: 27 first, then the request that the bytes hold; it gives the answer, the ten bytes of the
+-- response and the next state. The laws hold of every record (of one that 27 refuses nothing is acknowledged), every address and every
+-- padding. n and m are at least 1; that n + m is at most 65,535 is needed nowhere but to write it in a request's two bytes.
+-- The laws by `-seen` are said of the ten bytes that a guest gets, those by `-sent` of the 24 that it writes and the ten that it gets.
 --
--- The m blocks that follow begin at address + n * block size. A request has eight bytes for it, so from 2^64 on the sum is cut to these
--- (`behind`); then the PLUG of the n blocks is answered with ERROR (`past-the-end`), and one of n + m too, as its run ends even later. Where it
--- is acknowledged nothing was cut (`behind-whole`).
+-- The m blocks that follow begin at address + n * block size. A request has eight bytes for an address, so from 2^64 on it holds what they
+-- keep of the sum (`behind`). The PLUG of the n blocks is then answered with ERROR (`past-the-end`), and so is the one of n + m, which ends
+-- even later; where it is acknowledged, nothing of the sum was lost (`behind-whole`).
 use mathlib.Core.Path.{_≡_, refl, ap, _∙_, sym}
-use mathlib.Core.Bool.{Bool, true, false, cond, _&&_}
+use mathlib.Core.Bool.{Bool, true, false, _&&_}
 use mathlib.Core.List.{List}
 use Prim.Native.Nat.{ℕ, _+_, _*_, _%_, _^_, _≤_, _<_}
 use native.Mathlib.Nat.{mod-eq-of-lt}
@@ -30,7 +32,7 @@ use Rattle.device_words.specs.declared.request.Response.the-variants as respons
 use Rattle.device_words.proofs.ByteLaws.{request-low}
 use Rattle.device_words.proofs.AnswerLaws.{in-above, in-end, out-answer}
 use Rattle.device_words.proofs.RuleLaws.{device-valid}
-use Rattle.device_words.proofs.PlugLaws.{Plugs, afterPlug, ack-plugs, plugs-ack, plugs-first, plugs-second, plugs-one, leaves-one, unplug-ack, unplug-back}
+use Rattle.device_words.proofs.PlugLaws.{byChecks, Plugs, afterPlug, ack-plugs, plugs-ack, plugs-first, plugs-second, plugs-one, leaves-one, unplug-ack, unplug-back}
 use Rattle.memory_device.specs.Request.{carriedInto, carried}
 use Rattle.memory_device.specs.Calls.{acknowledges}
 use Rattle.memory_device.specs.LawsForPlugging.{behind, Acknowledged, AckSeen, AsOne, GivesBack}
@@ -63,9 +65,7 @@ module _ (d : MemoryDevice) (h : deviceOk d ≡ true) (a n : ℕ) (s : List ℕ)
   unfolding answered numberBy responseBytes le
   plugs-of k = ack-plugs d a n (go (inRange d (plugRun a n)) (alreadyPlugged d (plugRun a n)) (overRequested d (plugRun a n)) (rw (on-valid d s (plugRun a n) h e) at k))
     where
-      go : (x y z : Bool)
-          → eqb (number (responseBytes (typeOf (cond x (cond y response.Error (cond z response.Nack response.Ack)) response.Error)) (stateOf (cond x (cond y response.Error (cond z response.Nack response.Ack)) response.Error))) 0 2) 0 ≡ true
-          → isAck (cond x (cond y response.Error (cond z response.Nack response.Ack)) response.Error) ≡ true
+      go : (x y z : Bool) → eqb (number (responseBytes (typeOf (byChecks x y z)) (stateOf (byChecks x y z))) 0 2) 0 ≡ true → isAck (byChecks x y z) ≡ true
       go true true z q = absurd (never (sym q))
       go true false true q = absurd (never (sym q))
       go true false false q = refl
