@@ -1699,9 +1699,8 @@ fn neighbours(r: &mut Rng, d: &Device) -> (u64, u64, u64) {
     (addr, n, total - n)
 }
 
-/// From one state: a PLUG in two parts is acknowledged exactly when one of all the blocks is, and leaves
-/// the same device; and an UNPLUG takes an acknowledged PLUG back. That holds whatever the model says.
-fn plugging_case(r: &mut Rng, tally: &mut Tally) -> Result<(), String> {
+/// A device, seldom damaged, and two neighbouring runs of blocks for it.
+fn plugging_start(r: &mut Rng) -> (State, u64, u64, u64) {
     let mut d = random_device(r);
     if r.one_in(2) {
         // Free blocks between plugged ones.
@@ -1721,16 +1720,24 @@ fn plugging_case(r: &mut Rng, tally: &mut Tally) -> Result<(), String> {
     if r.one_in(8) {
         damage_device(r, &mut words);
     }
-    let start = State {
+    let state = State {
         words: vec![("device", guarded(r, &words), DEVICE)],
         bytes: vec![("request", r.bytes(32), REQUEST), ("response", r.bytes(16), RESPONSE)],
         numbers: vec![("address", addr), ("first blocks", n), ("blocks behind", m)],
     };
+    (state, addr, n, m)
+}
+
+/// From one state: a PLUG in two parts is acknowledged exactly when one of all the blocks is, and leaves
+/// the same device; and an UNPLUG takes an acknowledged PLUG back. That holds whatever the model says.
+fn plugging_case(r: &mut Rng, tally: &mut Tally) -> Result<(), String> {
+    let (start, addr, n, m) = plugging_start(r);
     let law = |holds: bool, what: String| {
         holds.then_some(()).ok_or_else(|| format!("{what}\n--- input\n{}", start.show(None)))
     };
-    let behind = addr.wrapping_add(n.wrapping_mul(words[0]));
-    let wraps = u128::from(addr) + u128::from(n) * u128::from(words[0]) >= 1 << 64;
+    let block_size = start.words[0].1[0];
+    let behind = addr.wrapping_add(n.wrapping_mul(block_size));
+    let wraps = u128::from(addr) + u128::from(n) * u128::from(block_size) >= 1 << 64;
     let (mut two, mut one, mut back) = (start.clone(), start.clone(), start.clone());
 
     let first = ask_both(r, tally, &mut two, 0, addr, n)?;

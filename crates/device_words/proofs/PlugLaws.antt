@@ -1,10 +1,9 @@
 -- When a PLUG is acknowledged, as facts; a run plugged in two parts; and an UNPLUG of what was just plugged. Assumes nothing.
 use mathlib.Core.Path.{_≡_, refl, ap, _∙_, sym}
 use mathlib.Core.Bool.{Bool, true, false, cond, _&&_, not}
-use Prim.Native.Nat.{ℕ, _+_, _-_, _*_, _/_, _%_, _≤_, _<_}
-use native.Mathlib.Nat.{add-mul, mul-add, mul-comm, add-mul-div-right, add-mul-mod-self-right, le-refl}
+use Prim.Native.Nat.{ℕ, _+_, _-_, _*_, _/_, _%_, _≤_}
+use native.Mathlib.Nat.{add-mul, mul-add, mul-comm, add-mul-div-right, add-mul-mod-self-right}
 use native.Mathlib.Omega.{arith}
-use lib.Dec.{ltb}
 use borrow.Author.Tests.{ltb-false, le-ltb, not-true}
 use Rattle.map_check.proofs.Bools.{and-fst, and-snd}
 use Rattle.device_words.specs.Table.{IsTable, bitAt, turned, heldIn, setIn}

@@ -29,7 +29,7 @@ state = 3
 abbrev pub requestOf : List ℕ → Request
 requestOf s = record { kind = number s 0 2; addr = record { 0 = number s 8 8 }; blocks = number s 16 2 }
 
--- the same layout written, padding 0: as many of a number's low bytes as its field has
+-- the same layout written: type, padding 0, address, number of blocks, padding 0; of each number as many of its low bytes as its field has
 unfoldable pub bytesOf : Request → List ℕ
 bytesOf r = le 2 (r .kind) ++ replicate 6 0 ++ le 8 (r .addr .0) ++ le 2 (r .blocks) ++ replicate 6 0
 

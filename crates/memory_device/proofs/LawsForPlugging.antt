@@ -9,32 +9,37 @@
 -- public definition, by which `carry_out` answers: 27 first, then the request that the bytes hold; it gives the answer, the ten bytes of the
 -- response and the next state. The laws hold of every record (of one that 27 refuses nothing is acknowledged), every address and every
 -- padding. n and m are at least 1; that n + m is at most 65,535 is needed nowhere but to write it in a request's two bytes.
--- The laws by `-seen` are said of the ten bytes that a guest gets, those by `-sent` of the 24 that it writes and the ten that it gets.
+-- `plug-undone-words` is the second law of a device in a host's words. The laws by `-seen` are said of the ten bytes that a guest gets, those
+-- by `-sent` of the 24 that it writes and the ten that it gets.
 --
 -- The m blocks that follow begin at address + n * block size. A request has eight bytes for an address, so from 2^64 on it holds what they
 -- keep of the sum (`behind`). The PLUG of the n blocks is then answered with ERROR (`past-the-end`), and so is the one of n + m, which ends
 -- even later; where it is acknowledged, nothing of the sum was lost (`behind-whole`).
 use mathlib.Core.Path.{_≡_, refl, ap, _∙_, sym}
 use mathlib.Core.Bool.{Bool, true, false, _&&_}
+use mathlib.Core.Logic.{⊎-elim}
 use mathlib.Core.List.{List}
 use Prim.Native.Nat.{ℕ, _+_, _*_, _%_, _^_, _≤_, _<_}
 use native.Mathlib.Nat.{mod-eq-of-lt}
 use native.Mathlib.Omega.{arith}
 use lib.Dec.{eqb}
+use lib.ListN.{length, getD}
+use Rattle.map_records.proofs.Order.{eq-or-not}
 use Rattle.map_check.specs.Reply.{accepted, passes}
 use Rattle.map_check.proofs.Bools.{never}
 use Rattle.device_words.specs.Bytes.{le, numberBy, number, responseBytes}
 use Rattle.device_words.specs.Table.{IsTable}
 use Rattle.device_words.specs.Device.{MemoryDevice, withPlugged, deviceOk}
 use Rattle.device_words.specs.Request.{Outcome, plug, unplug, requestOf, bytesOf, forRun, plugRun, unplugRun, typeOf, stateOf, inRange, alreadyPlugged, overRequested, answered, isAck, acknowledged, changedBy, carriedOut}
+use Rattle.device_words.specs.Words.{deviceOf, deviceWords}
 use Rattle.device_words.specs.declared.request.Request.{Request}
 use Rattle.device_words.specs.declared.request.Response.the-variants as response
 use Rattle.device_words.proofs.ByteLaws.{request-low}
 use Rattle.device_words.proofs.AnswerLaws.{in-above, in-end, out-answer}
+use Rattle.device_words.proofs.DeviceWords.{device-at, device-none, none-refused, words-table, words-back}
 use Rattle.device_words.proofs.RuleLaws.{device-valid}
 use Rattle.device_words.proofs.PlugLaws.{byChecks, Plugs, afterPlug, ack-plugs, plugs-ack, plugs-first, plugs-second, plugs-one, leaves-one, unplug-ack, unplug-back}
 use Rattle.memory_device.specs.Request.{carriedInto, carried}
-use Rattle.memory_device.specs.Calls.{acknowledges}
 use Rattle.memory_device.specs.LawsForPlugging.{behind, Acknowledged, AckSeen, AsOne, GivesBack}
 use Rattle.memory_device.proofs.Kept.{carry-kept}
 
@@ -163,6 +168,17 @@ plug-undone d a n w s t e f k = go (deviceOk d) refl
     go : (x : Bool) → deviceOk d ≡ x → GivesBack Acknowledged d (carried (carried d s .device) t)
     go false h = absurd (refused d s h k)
     go true h = let o = undone d a n h w s t e f (plugs-of d h a n s e k) in record { answer = rw o (acked-is d); device = ap (λ (x : Outcome). x .device) o }
+
+-- of a device in a host's words, of 64 bits each: they are as they were
+pub plug-undone-words : (w : List ℕ) (a n : ℕ) → ((i : ℕ) → getD w i 0 < 2 ^ 64) → (s t : List ℕ) → requestOf s ≡ plugRun a n → requestOf t ≡ unplugRun a n
+    → Acknowledged (carried (deviceOf w) s)
+    → Acknowledged (carried (carried (deviceOf w) s .device) t) × (deviceWords (carried (carried (deviceOf w) s .device) t .device) ≡ w)
+plug-undone-words w a n h s t e f k =
+    let law = plug-undone (deviceOf w) a n (words-table w h) s t e f k in (
+      law .answer,
+      ap deviceWords (law .device) ∙ ⊎-elim (λ (l : length w ≡ 37). ap deviceWords (device-at w l) ∙ words-back w l)
+          (λ none. absurd (refused (deviceOf w) s (ap deviceOk (device-none w none) ∙ none-refused) k)) (eq-or-not (length w) 37),
+    )
 
 -- ---- both laws, by the ten bytes that a guest gets
 
