@@ -60,6 +60,10 @@ words-back (a ∷ b ∷ c ∷ []) l = absurd (omega arith)
 words-back (a ∷ b ∷ c ∷ d ∷ []) l = absurd (omega arith)
 words-back (a ∷ b ∷ c ∷ d ∷ e ∷ v) l = ap (λ (r : List ℕ). a ∷ b ∷ c ∷ d ∷ e ∷ r) (halves v (omega arith))
 
+-- words stand for a record whose words they are
+pub words-of : (w : List ℕ) → length w ≡ 37 → deviceWords (deviceOf w) ≡ w
+words-of w l = ap deviceWords (device-at w l) ∙ words-back w l
+
 -- other words in the plug table, or in the pins
 pub plug-stored : (w t : List ℕ) → length w ≡ 37 → take 5 w ++ (t ++ drop 16 (drop 5 w)) ≡ deviceWords (withPlugged (deviceAt w) t)
 unfolding deviceWords

@@ -44,7 +44,7 @@ turned-both t from n m on =
 
 pub turned-back : (t : List ℕ) (from n : ℕ) (on : Bool) → IsTable t → heldIn t from n ≡ cond (not on) n 0 → turned (turned t from n on) from n (not on) ≡ t
 turned-back t from n on h e =
-    sym (table-ext t (λ b. cond (within from n b) (not on) (bitAt (turned t from n on) b)) (h .size) (h .words)
+    sym (table-ext t (λ b. cond (within from n b) (not on) (bitAt (turned t from n on) b)) h
     (λ b l. stays t from n (not on) b e ∙ over (bitAt t b) (within from n b)
     ∙ ap (λ (x : Bool). cond (within from n b) (not on) x) (sym (table-bit (λ c. cond (within from n c) on (bitAt t c)) b l))))
   where

@@ -15,7 +15,7 @@ use lib.ListN.{length, getD, replicate, List·getD-eq-default}
 use lib.Seq.{ext-getD}
 use borrow.Author.Tests.{lt-ltb, le-ltb}
 use Rattle.map_check.proofs.Bools.{never}
-use Rattle.device_words.specs.Table.{bitOf, bitAt, wordOf, wordsOf, tableOf, heldIn, bitsIn, setIn, allBelow}
+use Rattle.device_words.specs.Table.{IsTable, bitOf, bitAt, wordOf, wordsOf, tableOf, heldIn, bitsIn, setIn, allBelow}
 use Rattle.device_words.specs.Contracts.{onlyBelow, partOf}
 
 -- ---- a word and its bits
@@ -121,19 +121,19 @@ block t i k h =
     let q : (i * 64 + k) % 64 ≡ k = omega arith in
     ap (λ (x : ℕ). bitOf (getD t x 0) ((i * 64 + k) % 64)) p ∙ ap (bitOf (getD t i 0)) q
 
-pub table-ext : (t : List ℕ) (f : ℕ → Bool) → length t ≡ 16 → ((i : ℕ) → i < 16 → getD t i 0 < 2 ^ 64) → ((b : ℕ) → b < 1024 → bitAt t b ≡ f b) → t ≡ tableOf f
-table-ext t f size fits bits =
-    ext-getD 0 t (tableOf f) (size ∙ sym (table-length f))
+pub table-ext : (t : List ℕ) (f : ℕ → Bool) → IsTable t → ((b : ℕ) → b < 1024 → bitAt t b ≡ f b) → t ≡ tableOf f
+table-ext t f w bits =
+    ext-getD 0 t (tableOf f) (w .size ∙ sym (table-length f))
     (λ i p. let h : i < 16 = omega arith in
-    word-bits (getD t i 0) (fits i h)
+    word-bits (getD t i 0) (w .words i h)
     ∙ word-ext (bitOf (getD t i 0)) (λ k. f (i * 64 + k)) 64 (λ k q. sym (block t i k q) ∙ bits (i * 64 + k) (omega arith))
     ∙ sym (table-word f i h))
 
 -- two tables with the same blocks are equal
 pub table-same : (f g : ℕ → Bool) → ((b : ℕ) → b < 1024 → f b ≡ g b) → tableOf f ≡ tableOf g
 table-same f g h =
-    table-ext (tableOf f) g (table-length f)
-    (λ i l. subst (λ (x : ℕ). x < 2 ^ 64) (sym (table-word f i l)) (word-lt (λ k. f (i * 64 + k)) 64))
+    table-ext (tableOf f) g
+    (record { size = table-length f; words = λ i l. subst (λ (x : ℕ). x < 2 ^ 64) (sym (table-word f i l)) (word-lt (λ k. f (i * 64 + k)) 64) })
     (λ b l. table-bit f b l ∙ h b l)
 
 -- ---- a test of every block

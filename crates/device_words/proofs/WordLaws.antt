@@ -9,11 +9,11 @@ use native.Mathlib.Omega.{arith}
 use lib.Dec.{ltb, eqb, lit<}
 use lib.Pow.{shl-exact}
 use lib.Bits.{bitOr, bitXor, or-shr, or-mod, or-lt, xor-shr, xor-mod, xor-lt}
-use lib.ListN.{length, getD, set, replicate, length-set}
+use lib.ListN.{getD, set, replicate, length-set}
 use lib.Seq.{getD-set-same, getD-set-other}
 use borrow.Author.Tests.{lt-ltb, le-ltb, le-leb, lt-leb, eq-eqb, ne-eqb}
 use Rattle.map_check.proofs.Bools.{or-left, or-right}
-use Rattle.device_words.specs.Table.{bitOf, bitAt, wordOf, tableOf, within, heldIn, anyBelow}
+use Rattle.device_words.specs.Table.{IsTable, bitOf, bitAt, wordOf, tableOf, within, heldIn, anyBelow}
 use Rattle.device_words.proofs.TableLaws.{word-bits, word-lt, word-ext, word-low, word-bit, block, table-ext, held-le, held-all, held-none, zero-word, zero-bit}
 use Rattle.map_records.proofs.Order.{side, eq-or-not}
 
@@ -209,22 +209,20 @@ module _ (t : List ℕ) (from n : ℕ) (on : Bool) where
 -- ---- the blocks of a run turned to `on`, in the words below word i
 
 pub record Turned (t u : List ℕ) (from n : ℕ) (on : Bool) (i : ℕ) : Type 0 where
-  pub size : length u ≡ 16
-  pub fits : (j : ℕ) → j < 16 → getD u j 0 < 2 ^ 64
+  pub table : IsTable u
   pub done : (b : ℕ) → b < i * 64 → bitAt u b ≡ cond (within from n b) on (bitAt t b)
   pub rest : (b : ℕ) → i * 64 ≤ b → bitAt u b ≡ bitAt t b
 
-pub turned-none : (t : List ℕ) (from n : ℕ) (on : Bool) → length t ≡ 16 → ((j : ℕ) → j < 16 → getD t j 0 < 2 ^ 64) → Turned t t from n on (from / 64)
-turned-none t from n on s f = record {
-  size = s;
-  fits = f;
+pub turned-none : (t : List ℕ) (from n : ℕ) (on : Bool) → IsTable t → Turned t t from n on (from / 64)
+turned-none t from n on w = record {
+  table = w;
   done = λ b p. sym (ap (λ (x : Bool). cond x on (bitAt t b)) (within-before from n b (omega arith)));
   rest = λ b p. refl;
 }
 
 module _ (t u : List ℕ) (from n : ℕ) (on : Bool) (i w : ℕ) (h : i < 16) (e : w ≡ wordOf (λ k. cond (within from n (i * 64 + k)) on (bitOf (getD u i 0) k)) 64) (f : Turned t u from n on i) where
   same-word : getD (set u i w) i 0 ≡ w
-  same-word = getD-set-same u i w 0 (omega (arith, f .size))
+  same-word = getD-set-same u i w 0 (omega (arith, f .table .size))
 
   other-word : (b : ℕ) → (b / 64 ≡ i → ⊥) → bitAt (set u i w) b ≡ bitAt u b
   other-word b ne = ap (λ (x : ℕ). bitOf x (b % 64)) (getD-set-other u i (b / 64) w 0 ne)
@@ -234,7 +232,7 @@ module _ (t u : List ℕ) (from n : ℕ) (on : Bool) (i w : ℕ) (h : i < 16) (e
       ⊎-elim
       (λ (s : j ≡ i). subst (λ (x : ℕ). x < 2 ^ 64) (sym (ap (λ (x : ℕ). getD (set u i w) x 0) s ∙ same-word ∙ e))
       (word-lt (λ k. cond (within from n (i * 64 + k)) on (bitOf (getD u i 0) k)) 64))
-      (λ ne. subst (λ (x : ℕ). x < 2 ^ 64) (sym (getD-set-other u i j w 0 ne)) (f .fits j p))
+      (λ ne. subst (λ (x : ℕ). x < 2 ^ 64) (sym (getD-set-other u i j w 0 ne)) (f .table .words j p))
       (eq-or-not j i)
 
   word-done : (k : ℕ) → k < 64 → bitAt (set u i w) (i * 64 + k) ≡ cond (within from n (i * 64 + k)) on (bitAt t (i * 64 + k))
@@ -245,8 +243,7 @@ module _ (t u : List ℕ) (from n : ℕ) (on : Bool) (i w : ℕ) (h : i < 16) (e
 
   pub turned-next : Turned t (set u i w) from n on (i + 1)
   turned-next = record {
-    size = length-set u i w ∙ f .size;
-    fits = word-fits;
+    table = record { size = length-set u i w ∙ f .table .size; words = word-fits };
     done = λ b p. ⊎-elim
         (λ lt. other-word b (λ q. omega arith) ∙ f .done b lt)
         (λ ge. let at : i * 64 + (b - i * 64) ≡ b = omega arith in
@@ -257,7 +254,7 @@ module _ (t u : List ℕ) (from n : ℕ) (on : Bool) (i w : ℕ) (h : i < 16) (e
 
 pub turned-end : (t u : List ℕ) (from n : ℕ) (on : Bool) (i : ℕ) → from + n ≤ i * 64 → Turned t u from n on i → u ≡ tableOf (λ b. cond (within from n b) on (bitAt t b))
 turned-end t u from n on i h f =
-    table-ext u (λ b. cond (within from n b) on (bitAt t b)) (f .size) (f .fits)
+    table-ext u (λ b. cond (within from n b) on (bitAt t b)) (f .table)
     (λ b p. ⊎-elim (λ lt. f .done b lt)
     (λ ge. f .rest b ge ∙ sym (ap (λ (x : Bool). cond x on (bitAt t b)) (within-after from n b (omega arith))))
     (side b (i * 64)))
@@ -295,5 +292,5 @@ any-one f b = ap f (add-zero b)
 
 pub cleared : (t : List ℕ) → tableOf (λ b. cond (within 0 1024 b) false (bitAt t b)) ≡ replicate 16 0
 cleared t =
-    sym (table-ext (replicate 16 0) (λ b. cond (within 0 1024 b) false (bitAt t b)) refl (λ i h. rw (zero-word 16 i) (lit< tt))
+    sym (table-ext (replicate 16 0) (λ b. cond (within 0 1024 b) false (bitAt t b)) (record { size = refl; words = λ i h. rw (zero-word 16 i) (lit< tt) })
     (λ b h. zero-bit b ∙ sym (ap (λ (x : Bool). cond x false (bitAt t b)) (within-in 0 1024 b (omega arith) (omega arith)))))

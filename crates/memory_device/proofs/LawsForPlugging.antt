@@ -36,7 +36,7 @@ use Rattle.device_words.specs.declared.request.Request.{Request}
 use Rattle.device_words.specs.declared.request.Response.the-variants as response
 use Rattle.device_words.proofs.ByteLaws.{request-low}
 use Rattle.device_words.proofs.AnswerLaws.{in-above, in-end, out-answer}
-use Rattle.device_words.proofs.DeviceWords.{device-at, device-none, none-refused, words-table, words-back}
+use Rattle.device_words.proofs.DeviceWords.{device-none, none-refused, words-table, words-of}
 use Rattle.device_words.proofs.RuleLaws.{device-valid}
 use Rattle.device_words.proofs.PlugLaws.{byChecks, Plugs, afterPlug, ack-plugs, plugs-ack, plugs-first, plugs-second, plugs-one, leaves-one, unplug-ack, unplug-back}
 use Rattle.memory_device.specs.Request.{carriedInto, carried}
@@ -176,7 +176,7 @@ pub plug-undone-words : (w : List ℕ) (a n : ℕ) → ((i : ℕ) → getD w i 0
 plug-undone-words w a n h s t e f k =
     let law = plug-undone (deviceOf w) a n (words-table w h) s t e f k in (
       law .answer,
-      ap deviceWords (law .device) ∙ ⊎-elim (λ (l : length w ≡ 37). ap deviceWords (device-at w l) ∙ words-back w l)
+      ap deviceWords (law .device) ∙ ⊎-elim (words-of w)
           (λ none. absurd (refused (deviceOf w) s (ap deviceOk (device-none w none) ∙ none-refused) k)) (eq-or-not (length w) 37),
     )
 

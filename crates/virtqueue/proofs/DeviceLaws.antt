@@ -10,9 +10,9 @@ use Rattle.map_records.specs.declared.view.FlatView.{FlatView}
 use Rattle.map_check.proofs.Bools.{never, and-fst, and-snd}
 use Rattle.device_words.specs.Device.{MemoryDevice, noBlocks, withPlugged, deviceOk}
 use Rattle.device_words.specs.Request.{requestOf, plug, unplug, unplugAll, answered, withRun, isAck, changedBy}
-use Rattle.device_words.specs.Words.{isDevice, deviceOf, deviceWords}
+use Rattle.device_words.specs.Words.{isDevice, deviceOf}
 use Rattle.device_words.proofs.TableLaws.{table-length}
-use Rattle.device_words.proofs.DeviceWords.{device-at, device-none, none-refused, plugged-length, pins-length, words-back}
+use Rattle.device_words.proofs.DeviceWords.{device-at, device-none, none-refused, plugged-length, pins-length, words-of}
 use Rattle.guest_view.specs.View.{viewOk}
 use Rattle.virtqueue.specs.Does.{laid}
 use Rattle.virtqueue.specs.Queue.{queueOk}
@@ -48,10 +48,6 @@ step-tables g d q memory t = go (offered g memory q)
     go (stop n) = t
     go nothing = t
     go (ready n notify c) = carried-tables d (requestBytes (g .place) memory c) t
-
--- words stand for a record whose words they are
-pub words-of : (w : List ℕ) → length w ≡ 37 → deviceWords (deviceOf w) ≡ w
-words-of w l = ap deviceWords (device-at w l) ∙ words-back w l
 
 pub laid-back : (w : List ℕ) → laid w (deviceOf w) ≡ w
 laid-back w = go (isDevice w) refl

@@ -9,7 +9,7 @@ use borrow.Author.Tests.{eqb-true, eq-eqb}
 use Rattle.map_records.specs.declared.view.FlatView.{FlatView}
 use Rattle.device_words.specs.Device.{deviceOk}
 use Rattle.device_words.specs.Device.{MemoryDevice}
-use Rattle.device_words.proofs.DeviceWords.{record-back}
+use Rattle.device_words.proofs.DeviceWords.{record-back, words-of}
 use Rattle.guest_view.specs.Guest.{byView}
 use Rattle.virtqueue.specs.Queue.{queueOk}
 use Rattle.virtqueue.specs.Step.{Answer, refused, Effect, steppedBy, recordsOk, stepped}
@@ -23,7 +23,7 @@ use Rattle.virtqueue.specs.declared.run.RunEnd.the-variants as end
 use Rattle.virtqueue.specs.declared.run.Ran.{Ran}
 use Rattle.device_words.specs.Words.{isDevice, deviceOf, deviceWords}
 use Rattle.virtqueue.specs.Does.{answerOf}
-use Rattle.virtqueue.proofs.DeviceLaws.{tables, step-tables, words-of, laid-back, full}
+use Rattle.virtqueue.proofs.DeviceLaws.{tables, step-tables, laid-back, full}
 use Rattle.virtqueue.proofs.StepLaws.{Left}
 use Rattle.virtqueue.proofs.RunSteps.{step-kept, run-is-steps}
 

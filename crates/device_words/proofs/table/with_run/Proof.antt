@@ -15,7 +15,7 @@ abbrev μ-loop : tie.MeasureT-loop
 
 loop-holds : tie.Need-loop-holds Inv-loop μ-loop
 loop-holds c = let a = c .before .args in
-    (omega arith, turned-none (a .words .now) (a .from) (a .n) (a .on) (c .before .pre .0) (λ j p. omega (arith, c .slice-known .given j)))
+    (omega arith, turned-none (a .words .now) (a .from) (a .n) (a .on) (record { size = c .before .pre .0; words = λ j p. omega (arith, c .slice-known .given j) }))
 
 loop-again : tie.Need-loop-again Inv-loop μ-loop
 loop-again c = let a = c .before .before .before .before .before .args in
@@ -23,7 +23,7 @@ loop-again c = let a = c .before .before .before .before .before .args in
     (omega arith, turned-next (a .words .now) (loop .words) (a .from) (a .n) (a .on) (loop .i) (c .word-with .result) (omega arith) (c .word-with .ensures) (loop .inv .1))
 
 same-length : tie.Need-same-length Inv-loop μ-loop
-same-length c = c .before .loop .inv .1 .size ∙ sym (c .before .before .before .pre .0)
+same-length c = c .before .loop .inv .1 .table .size ∙ sym (c .before .before .before .pre .0)
 
 returns : tie.Need-returns Inv-loop μ-loop
 returns c = let a = c .before .before .before .args in
