@@ -10,7 +10,7 @@ use borrow.Author.Tests.{le-leb, ltb-false, eqb-true, not-false, eq-eqb}
 use Rattle.map_check.proofs.Bools.{never, and-fst, and-snd, or-left, or-right}
 use Rattle.device_words.specs.Table.{bitAt}
 use Rattle.device_words.specs.Device.{MemoryDevice, isPinned, withTables, withPins, withPin, noBlocks, setupOk, blockOk, regionOk, addrOk, sizesOk, deviceOk}
-use Rattle.device_words.specs.Request.{requestOf}
+use Rattle.device_words.specs.Request.{requestOf, carriedOut}
 use Rattle.device_words.proofs.TableLaws.{zero-bit}
 use Rattle.device_words.proofs.RuleLaws.{device-valid, blocks-mono}
 use Rattle.device_words.proofs.Kept.{setup-of, device-ok, inside-run, run-set, run-cleared, change-kept}
@@ -91,6 +91,11 @@ resize-kept d size h =
     let pos : 0 < b = omega (arith, v .least) in
     device-ok (withRequested d size) (resized-setup d size h whole fits)
     (λ c l s. let z = v .inside c l s in let m = blocks-mono b (d .«usable_size») (max (d .«usable_size») size) pos (omega arith) in omega arith) (v .held)))
+
+-- a request on a valid record is carried out, and keeps it valid
+pub carry-through : (d : MemoryDevice) (s : List ℕ) → deviceOk d ≡ true → carried d s ≡ carriedOut d (requestOf s)
+unfolding carriedInto
+carry-through d s h = rw h
 
 pub carry-kept : (d : MemoryDevice) (s : List ℕ) → deviceOk d ≡ true → deviceOk (carried d s .device) ≡ true
 unfolding carriedInto

@@ -41,12 +41,11 @@ use Rattle.device_words.proofs.RuleLaws.{device-valid}
 use Rattle.device_words.proofs.PlugLaws.{byChecks, Plugs, afterPlug, ack-plugs, plugs-ack, plugs-first, plugs-second, plugs-one, leaves-one, unplug-ack, unplug-back}
 use Rattle.memory_device.specs.Request.{carriedInto, carried}
 use Rattle.memory_device.specs.LawsForPlugging.{behind, Acknowledged, AckSeen, AsOne, GivesBack}
-use Rattle.memory_device.proofs.Kept.{carry-kept}
+use Rattle.memory_device.proofs.Kept.{carry-through, carry-kept}
 
 -- a request on a record that passes 27, and on one that does not
 on-valid : (d : MemoryDevice) (s : List ℕ) (r : Request) → deviceOk d ≡ true → requestOf s ≡ r → carried d s ≡ carriedOut d r
-unfolding carriedInto
-on-valid d s r h e = rw (h, e)
+on-valid d s r h e = carry-through d s h ∙ ap (carriedOut d) e
 
 refused : (d : MemoryDevice) (s : List ℕ) → deviceOk d ≡ false → Acknowledged (carried d s) → ⊥
 unfolding carriedInto

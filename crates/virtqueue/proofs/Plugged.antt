@@ -8,12 +8,12 @@ use Rattle.map_records.specs.declared.view.FlatView.{FlatView}
 use Rattle.map_check.proofs.Bools.{never, and-fst, and-snd}
 use Rattle.device_words.specs.Table.{bitAt}
 use Rattle.device_words.specs.Device.{MemoryDevice, fresh, deviceOk}
-use Rattle.device_words.specs.Request.{requestOf, carriedOut, Outcome}
+use Rattle.device_words.specs.Request.{Outcome}
 use Rattle.device_words.proofs.TableLaws.{zero-bit}
 use Rattle.guest_view.specs.Guest.{Guest, byView}
 use Rattle.guest_view.specs.View.{viewOk}
-use Rattle.memory_device.specs.Request.{carriedInto, carried}
 use Rattle.memory_device.specs.Calls as device
+use Rattle.memory_device.proofs.Kept.{carry-through}
 use Rattle.memory_device.proofs.Plugged as device-laws
 use Rattle.virtqueue.specs.Queue.{queueOk}
 use Rattle.virtqueue.specs.Step.{entry, comesTo, Offer, stop, nothing, ready, offered, responsePlaces, usedPlaces, usedBytes, carrying, servedMemory, Answer, refused, idle, served, Effect, unmoved, finished, steppedBy, recordsOk, stepped}
@@ -32,11 +32,6 @@ device-ok : (v : FlatView) (d : MemoryDevice) (q : SplitQueue) (n : ℕ) → rec
 unfolding recordsOk
 device-ok v d q n r = and-fst (deviceOk d) (queueOk q) (and-snd (viewOk v n (d .«region_size»)) (deviceOk d && queueOk q) r)
 
--- 27 lets a valid device pass
-through : (d : MemoryDevice) (s : List ℕ) → deviceOk d ≡ true → carried d s ≡ carriedOut d (requestOf s)
-unfolding carriedInto
-through d s h = rw h
-
 module _ (v : FlatView) (d : MemoryDevice) (q : SplitQueue) (memory : List ℕ) where
   -- 'carried out as the request': through the public definition with 27
   pub served-carries : (notify : Bool) → stepped v d q memory .answer ≡ served notify → CarriesOut v d q memory
@@ -48,7 +43,7 @@ module _ (v : FlatView) (d : MemoryDevice) (q : SplitQueue) (memory : List ℕ) 
           let g = byView v d in
           let is : stepped v d q memory ≡ finished g d q memory (offered g memory q) = rw r in
           let k = is ∙ serving g d q memory notify (ap (λ (f : Effect MemoryDevice). f .answer) (sym is) ∙ e) in
-          let o = through d (requestRead v d q memory) (device-ok v d q (length memory) r) in
+          let o = carry-through d (requestRead v d q memory) (device-ok v d q (length memory) r) in
           record {
             reply = ap (λ (x : Outcome). x .reply) o;
             device = ap (λ (f : Effect MemoryDevice). f .device) k ∙ sym (ap (λ (x : Outcome). x .device) o);
