@@ -7,10 +7,11 @@
 --
 -- No host call and no other request comes between the two: the second is carried out on the state that the first one left. `carried` is the
 -- public definition, by which `carry_out` answers: 27 first, then the request that the bytes hold; it gives the answer, the ten bytes of the
--- response and the next state. The laws hold of every record (of one that 27 refuses nothing is acknowledged), every address and every
--- padding. n and m are at least 1; that n + m is at most 65,535 is needed nowhere but to write it in a request's two bytes.
--- `plug-undone-words` is the second law of a device in a host's words. The laws by `-seen` are said of the ten bytes that a guest gets, those
--- by `-sent` of the 24 that it writes and the ten that it gets.
+-- response and the next state. Both laws hold of records that 27 refuses too, of which nothing is acknowledged, of every address and of every
+-- padding. n and m are at least 1; that n + m is at most 65,535 is needed nowhere but to write it in a request's two bytes. The second law
+-- asks that the plug table is sixteen words of 64 bits, as its type in the code says; of a host's words this holds (`plug-undone-words`).
+-- On a record that 27 lets pass the laws by `-seen` say the same of the ten bytes that a guest gets, those by `-sent` of the 24 that it writes
+-- and the ten that it gets.
 --
 -- The m blocks that follow begin at address + n * block size. A request has eight bytes for an address, so from 2^64 on it holds what they
 -- keep of the sum (`behind`). The PLUG of the n blocks is then answered with ERROR (`past-the-end`), and so is the one of n + m, which ends
@@ -78,7 +79,7 @@ module _ (d : MemoryDevice) (h : deviceOk d ≡ true) (a n : ℕ) (s : List ℕ)
   of-plugs : Plugs d a n → carried d s ≡ acked (afterPlug d a n)
   of-plugs p = on-valid d s (plugRun a n) h e ∙ carried-acked d (plugRun a n) (plugs-ack d a n p)
 
--- an acknowledged run ends below 2^48
+-- an acknowledged run ends at 2^48 at the latest
 run-end : (d : MemoryDevice) (a n : ℕ) → deviceOk d ≡ true → Plugs d a n → a + n * d .«block_size» < 2 ^ 64
 run-end d a n h p = let v = device-valid d h in omega (arith, p .above, p .room, v .usable, v .end)
 
