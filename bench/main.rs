@@ -7,12 +7,12 @@
 //!
 //! Peers: "same checks" judges every record on every call, as the library must (27); "trusted" is the same
 //! code on records that were judged before. Both are plain.rs, and agree.rs holds them to the library's answers.
-//! "model" is tests/independent/model.rs, which is written to be read, not to be fast. vm_memory.rs is a
+//! "model" is tests/independent/model, which is written to be read, not to be fast. vm_memory.rs is a
 //! program of its own, which bench/run builds where vm-memory is installed.
 mod agree;
 mod library;
 mod measure;
-#[path = "../tests/independent/model.rs"]
+#[path = "../tests/independent/model/mod.rs"]
 mod model;
 mod plain;
 mod report;

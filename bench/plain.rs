@@ -3,29 +3,38 @@
 //!
 //! `judge_*` is 27, in one pass each; the calls named `*_judged` do it every time, as the library must. The
 //! others trust their records.
+//!
+//! tests/independent/model has the same rules and shares no code with this file, on purpose. The model is naive, so that it
+//! can be read beside document 01: it copies every record out of its words, and a table of blocks is a `Vec<bool>`. This file is
+//! written for speed. A rule taken from there would make the peer slow, and one taken from here would make
+//! the model hard to trust; and a mistake in a shared rule would be found by neither `agree.rs` nor tests/independent. Shared
+//! are only the records' lengths and positions and the numbers of the kinds.
 #![allow(dead_code)]
 
-pub type Range = [u64; 6]; // first, last, node, offset, kind, base
-pub type Device = [u64; 37];
-pub type Queue = [u64; 7];
+use crate::model::{
+    DEVICE, LIMIT, MANAGED, MMIO, MOST_NODES, MOST_RUNS, QUEUE, RAM, RANGE_WORDS, REQUEST,
+    RESPONSE, RESULT, TABLE_WORDS, VIEW, WT_DEVICE_PINNED as PINNED, WT_DEVICE_PLUGGED as PLUGGED,
+};
 
-const LIMIT: u64 = 1 << 48;
-const RAM: u64 = 1;
-const MMIO: u64 = 2;
-const MANAGED: u64 = 4;
+pub type Range = [u64; RANGE_WORDS]; // first, last, node, offset, kind, base
+pub type Device = [u64; DEVICE];
+pub type Queue = [u64; QUEUE];
+
+const TABLE: std::ops::Range<usize> = PLUGGED..PLUGGED + TABLE_WORDS;
+const PINS: std::ops::Range<usize> = PINNED..PINNED + TABLE_WORDS;
 
 // ------------------------------------------------------------------------------------------------ 27
 
 pub fn judge_view(view: &[u64], memory_length: u64, region: Option<u64>) -> Option<&[Range]> {
     let (&count, rest) = view.split_first()?;
-    if view.len() != 1537 || count > 256 {
+    if view.len() != VIEW || count > MOST_RUNS {
         return None;
     }
-    let ranges = rest.as_chunks::<6>().0.get(..count as usize)?;
-    let mut nodes = [(0, 0); 32]; // kind and base of each node met; kind 0: not met
+    let ranges = rest.as_chunks::<RANGE_WORDS>().0.get(..count as usize)?;
+    let mut nodes = [(0, 0); MOST_NODES as usize]; // kind and base of each node met; kind 0: not met
     let mut next = 0;
     for &[first, last, node, offset, kind, base] in ranges {
-        if first < next || first > last || last >= LIMIT || node > 31 || offset >= LIMIT {
+        if first < next || first > last || last >= LIMIT || node >= MOST_NODES || offset >= LIMIT {
             return None;
         }
         let end = offset + (last - first);
@@ -71,8 +80,8 @@ pub fn judge_device(d: &Device) -> bool {
         return false;
     }
     let blocks = usable >> block.trailing_zeros();
-    for i in 0..16u64 {
-        let (plugged, pinned) = (d[5 + i as usize], d[21 + i as usize]);
+    for i in 0..TABLE_WORDS as u64 {
+        let (plugged, pinned) = (d[PLUGGED + i as usize], d[PINNED + i as usize]);
         let allowed = match blocks.saturating_sub(64 * i) {
             0 => 0,
             n if n >= 64 => u64::MAX,
@@ -111,7 +120,7 @@ pub fn find(ranges: &[Range], address: u64) -> Option<usize> {
 #[inline]
 fn plugged(d: &Device, offset: u64) -> bool {
     let block = offset >> d[0].trailing_zeros();
-    d[5 + (block / 64) as usize % 16] >> (block % 64) & 1 == 1
+    d[PLUGGED + (block / 64) as usize % TABLE_WORDS] >> (block % 64) & 1 == 1
 }
 
 /// 0 and the result, or 23 to 26.
@@ -121,11 +130,11 @@ pub fn route(
     device: Option<&Device>,
     address: u64,
     width: u64,
-) -> (u64, [u64; 3]) {
+) -> (u64, [u64; RESULT]) {
     if !matches!(width, 1 | 2 | 4 | 8) {
-        return (23, [0; 3]);
+        return (23, [0; RESULT]);
     }
-    let Some(mut i) = find(ranges, address) else { return (24, [0; 3]) };
+    let Some(mut i) = find(ranges, address) else { return (24, [0; RESULT]) };
     let [first, _, node, offset, kind, base] = ranges[i];
     let offset = offset + (address - first);
     let end = address + width;
@@ -135,7 +144,7 @@ pub fn route(
         i += 1;
         match ranges.get(i) {
             Some(r) if r[0] == last + 1 && r[2] == node && r[3] == offset + (r[0] - address) => {}
-            _ => return (25, [0; 3]),
+            _ => return (25, [0; RESULT]),
         }
     }
     match kind {
@@ -144,7 +153,7 @@ pub fn route(
             Some(d) if plugged(d, offset) && plugged(d, offset + width - 1) => {
                 (0, [1, base + offset, 0])
             }
-            _ => (26, [0; 3]),
+            _ => (26, [0; RESULT]),
         },
         _ => (0, [1, base + offset, 0]),
     }
@@ -157,12 +166,12 @@ pub fn route_judged(
     device: Option<&Device>,
     address: u64,
     width: u64,
-) -> (u64, [u64; 3]) {
+) -> (u64, [u64; RESULT]) {
     if device.is_some_and(|d| !judge_device(d)) {
-        return (27, [0; 3]);
+        return (27, [0; RESULT]);
     }
     match judge_view(view, memory_length, device.map(|d| d[2])) {
-        None => (27, [0; 3]),
+        None => (27, [0; RESULT]),
         Some(ranges) => route(ranges, device, address, width),
     }
 }
@@ -200,16 +209,16 @@ fn bit_mask(word: u64, first: u64, end: u64) -> u64 {
 }
 
 /// Answer and state of a request.
-pub fn request(d: &mut Device, request: &[u8; 24]) -> (u16, u16) {
+pub fn request(d: &mut Device, request: &[u8; REQUEST]) -> (u16, u16) {
     let kind = u16::from_le_bytes([request[0], request[1]]);
     let address = u64::from_le_bytes(request[8..16].try_into().unwrap());
     let count = u64::from(u16::from_le_bytes([request[16], request[17]]));
     let [block, addr, _, usable, requested, ..] = *d;
     if kind == 2 {
-        if d[21..37].iter().any(|&w| w != 0) {
+        if d[PINS].iter().any(|&w| w != 0) {
             return (2, 0);
         }
-        d[5..21].fill(0);
+        d[TABLE].fill(0);
         return (0, 0);
     }
     if kind > 3 || address & (block - 1) != 0 || count == 0 || address < addr {
@@ -225,7 +234,7 @@ pub fn request(d: &mut Device, request: &[u8; 24]) -> (u16, u16) {
     let (mut any, mut all) = (false, true);
     for w in words.clone() {
         let mask = bit_mask(w, first, end);
-        let bits = d[5 + w as usize] & mask;
+        let bits = d[PLUGGED + w as usize] & mask;
         any |= bits != 0;
         all &= bits == mask;
     }
@@ -234,12 +243,12 @@ pub fn request(d: &mut Device, request: &[u8; 24]) -> (u16, u16) {
             if any {
                 return (3, 0);
             }
-            let plugged: u64 = d[5..21].iter().map(|w| u64::from(w.count_ones())).sum();
+            let plugged: u64 = d[TABLE].iter().map(|w| u64::from(w.count_ones())).sum();
             if (plugged + count) * block > requested {
                 return (1, 0);
             }
             for w in words {
-                d[5 + w as usize] |= bit_mask(w, first, end);
+                d[PLUGGED + w as usize] |= bit_mask(w, first, end);
             }
             (0, 0)
         }
@@ -247,11 +256,11 @@ pub fn request(d: &mut Device, request: &[u8; 24]) -> (u16, u16) {
             if !all {
                 return (3, 0);
             }
-            if words.clone().any(|w| d[21 + w as usize] & bit_mask(w, first, end) != 0) {
+            if words.clone().any(|w| d[PINNED + w as usize] & bit_mask(w, first, end) != 0) {
                 return (2, 0);
             }
             for w in words {
-                d[5 + w as usize] &= !bit_mask(w, first, end);
+                d[PLUGGED + w as usize] &= !bit_mask(w, first, end);
             }
             (0, 0)
         }
@@ -339,7 +348,7 @@ fn reachable(ranges: &[Range], d: &Device, address: u64, length: u64) -> bool {
                 let end = ((offset + (stop - first)) >> shift) + 1;
                 for w in from / 64..(end - 1) / 64 + 1 {
                     let mask = bit_mask(w, from, end);
-                    if d[5 + w as usize] & mask != mask {
+                    if d[PLUGGED + w as usize] & mask != mask {
                         return false;
                     }
                 }
@@ -375,10 +384,10 @@ pub fn step(ranges: &[Range], d: &mut Device, q: &mut Queue, memory: &mut [u8]) 
 }
 
 /// A call's number and its result.
-pub fn answer(outcome: Outcome) -> (u64, [u64; 3]) {
+pub fn answer(outcome: Outcome) -> (u64, [u64; RESULT]) {
     match outcome {
-        Outcome::Stopped(number) => (number, [0; 3]),
-        Outcome::Idle => (0, [0; 3]),
+        Outcome::Stopped(number) => (number, [0; RESULT]),
+        Outcome::Idle => (0, [0; RESULT]),
         Outcome::Served(notify) => (0, [1, notify.into(), 0]),
     }
 }
@@ -405,8 +414,8 @@ fn try_step(
     if head >= n {
         return Err(19);
     }
-    let (mut request_bytes, mut got) = ([0u8; 24], 0usize);
-    let (mut response_places, mut room) = ([0usize; 10], 0usize);
+    let (mut request_bytes, mut got) = ([0u8; REQUEST], 0usize);
+    let (mut response_places, mut room) = ([0usize; RESPONSE], 0usize);
     let mut writable_before = false;
     let mut number = head;
     let mut length_so_far = 0;
@@ -427,18 +436,18 @@ fn try_step(
         // Take what is still wanted of this element.
         let mut at = 0;
         if writable {
-            while at < length && room < 10 {
+            while at < length && room < RESPONSE {
                 let (place, count) = chunk(ranges, d, address + at).ok_or(21u64)?;
-                for i in 0..count.min(length - at).min((10 - room) as u64) {
+                for i in 0..count.min(length - at).min((RESPONSE - room) as u64) {
                     response_places[room] = place + i as usize;
                     room += 1;
                     at += 1;
                 }
             }
         } else {
-            while at < length && got < 24 {
+            while at < length && got < REQUEST {
                 let (place, count) = chunk(ranges, d, address + at).ok_or(21u64)?;
-                let count = count.min(length - at).min((24 - got) as u64);
+                let count = count.min(length - at).min((REQUEST - got) as u64);
                 let end = got + count as usize;
                 request_bytes[got..end].copy_from_slice(&memory[place..place + count as usize]);
                 got = end;
@@ -454,19 +463,19 @@ fn try_step(
         }
         number = next;
     }
-    if got < 24 || room < 10 {
+    if got < REQUEST || room < RESPONSE {
         return Err(22);
     }
     let slot = places::<8>(ranges, d, used + 4 + 8 * (count & (n - 1))).ok_or(17u64)?;
     let index_places = places::<2>(ranges, d, used + 2).ok_or(17u64)?;
 
     let (answer, state) = request(d, &request_bytes);
-    let mut response = [0u8; 10];
+    let mut response = [0u8; RESPONSE];
     response[0..2].copy_from_slice(&answer.to_le_bytes());
     response[8..10].copy_from_slice(&state.to_le_bytes());
     q[4] = (seen + 1) & 0xffff;
     q[5] = (count + 1) & 0xffff;
-    let element = (head | 10 << 32).to_le_bytes();
+    let element = (head | (RESPONSE as u64) << 32).to_le_bytes();
     for (place, byte) in response_places.iter().zip(response) {
         memory[*place] = byte;
     }
@@ -485,12 +494,12 @@ pub fn step_judged(
     d: &mut Device,
     q: &mut Queue,
     memory: &mut [u8],
-) -> (u64, [u64; 3]) {
+) -> (u64, [u64; RESULT]) {
     if !judge_device(d) || !judge_queue(q) {
-        return (27, [0; 3]);
+        return (27, [0; RESULT]);
     }
     match judge_view(view, memory.len() as u64, Some(d[2])) {
-        None => (27, [0; 3]),
+        None => (27, [0; RESULT]),
         Some(ranges) => answer(step(ranges, d, q, memory)),
     }
 }
@@ -502,12 +511,12 @@ pub fn run_judged(
     q: &mut Queue,
     memory: &mut [u8],
     k: u64,
-) -> (u64, [u64; 3]) {
+) -> (u64, [u64; RESULT]) {
     if !judge_device(d) || !judge_queue(q) {
-        return (27, [0; 3]);
+        return (27, [0; RESULT]);
     }
     match judge_view(view, memory.len() as u64, Some(d[2])) {
-        None => (27, [0; 3]),
+        None => (27, [0; RESULT]),
         Some(ranges) => run(ranges, d, q, memory, k),
     }
 }
@@ -518,7 +527,7 @@ pub fn run(
     q: &mut Queue,
     memory: &mut [u8],
     k: u64,
-) -> (u64, [u64; 3]) {
+) -> (u64, [u64; RESULT]) {
     let (mut served, mut notified) = (0, false);
     for _ in 0..k.min(256) {
         match step(ranges, d, q, memory) {
