@@ -6,9 +6,9 @@
 //!
 //! tests/independent/model has the same rules and shares no code with this file, on purpose. The model is naive, so that it
 //! can be read beside document 01: it copies every record out of its words, and a table of blocks is a `Vec<bool>`. This file is
-//! written for speed. A rule taken from there would make the peer slow, and one taken from here would make
-//! the model hard to trust; and a mistake in a shared rule would be found by neither `agree.rs` nor tests/independent. Shared
-//! are only the records' lengths and positions and the numbers of the kinds.
+//! written for speed. A rule taken from there would make the peer slow; a rule taken from here would make the model hard to
+//! trust. And two readings of the paper, each compared with the library, say more than one. Shared are only the records'
+//! lengths and positions, 2^48, and the numbers of the kinds.
 #![allow(dead_code)]
 
 use crate::model::{

@@ -2,10 +2,13 @@
 //!
 //!     vectors FILE..    runs every case of the files; the last line is 'N passed, M failed'
 //!
-//! A file has `define NAME` and `case NAME`, each with indented commands. A definition is a command of its own
+//! A file has `define NAME` and `case GROUP N: WORDS`, each with indented commands. A definition is a command of its own
 //! afterwards; that named `start` begins every case of its file. A case ends with `gives`, the expected answer of
 //! its last call, and `and` lines that go on with it. `include FILE` brings another file's definitions. `#`
 //! begins a comment. Whatever is not understood ends the run with exit 1.
+//!
+//! The cases of one group try one rule, and docs/PROMISES.md cites them by file and group. No two cases of a file have one group
+//! and number. The words after the colon may be missing.
 mod host;
 #[path = "../library.rs"]
 #[rustfmt::skip]
@@ -22,6 +25,7 @@ struct Command {
 }
 
 struct Case {
+    /// Group and number, then what the case tries.
     name: String,
     place: String,
     commands: Vec<Command>,
@@ -82,10 +86,11 @@ impl Book {
                 self.definitions.insert(name.clone(), Vec::new());
                 Ok(Block::Definition(name))
             }
-            "case" if !self.cases.iter().any(|c| c.name == name) => {
+            "case" if numbered(&name) && !self.cases.iter().any(|c| id(&c.name) == id(&name)) => {
                 self.cases.push(Case { name, place, commands: Vec::new(), expected: Vec::new() });
                 Ok(Block::Case)
             }
+            "case" if !numbered(&name) => Err(format!("{place}: no group and number: {name}")),
             _ => Err(format!("{place}: unknown, or there twice: {}", words.join(" "))),
         }
     }
@@ -115,6 +120,17 @@ impl Book {
         }
         Ok(())
     }
+}
+
+/// A case's group and number: what stands before the colon.
+fn id(name: &str) -> &str {
+    name.split(':').next().unwrap_or(name)
+}
+
+/// Whether a case has a group and, last, a number.
+fn numbered(name: &str) -> bool {
+    let group = id(name).trim_end_matches(|c: char| c.is_ascii_digit());
+    !group.trim_end().is_empty() && group.len() < id(name).len()
 }
 
 impl Case {
