@@ -2,7 +2,7 @@
 #![allow(dead_code)]
 
 #[path = "../include/wicktumble.rs"]
-mod raw;
+pub mod raw;
 
 pub fn read_sheet(s: &[u8], length: u64, m: &mut [u64], r: &mut [u64]) -> u64 {
     unsafe {

@@ -1,5 +1,6 @@
 //! A host with its records and the guest's memory: what the commands of a case do, and what the calls answer.
 use crate::library;
+use crate::library::raw::*;
 use crate::numbers::{all_fields, bytes, fields, hex, number, numbers};
 
 const REGION: [&str; 8] =
@@ -8,9 +9,17 @@ const RANGE: [&str; 6] = ["first", "last", "region", "offset", "kind", "base"];
 const DEVICE: [&str; 7] = ["block", "addr", "region", "usable", "requested", "plugged", "pinned"];
 const QUEUE: [&str; 7] = ["size", "descriptors", "available", "used", "seen", "own", "stop"];
 /// Where the device's fields lie in its words; of the two tables their first words.
-const DEVICE_AT: [usize; 7] = [0, 1, 2, 3, 4, PLUGGED, PINNED];
-const PLUGGED: usize = 5;
-const PINNED: usize = 21;
+const DEVICE_AT: [usize; 7] = [
+    WT_DEVICE_BLOCK_SIZE,
+    WT_DEVICE_ADDR,
+    WT_DEVICE_REGION_SIZE,
+    WT_DEVICE_USABLE_SIZE,
+    WT_DEVICE_REQUESTED_SIZE,
+    WT_DEVICE_PLUGGED,
+    WT_DEVICE_PINNED,
+];
+/// Words of each of the device's two tables.
+const TABLE_WORDS: usize = WT_DEVICE_PINNED - WT_DEVICE_PLUGGED;
 
 /// Bytes of memory that the answer shows: a place, or none where an address lies nowhere, and a count.
 type Stretch = (Option<usize>, usize);
@@ -35,10 +44,10 @@ impl Host {
     pub fn new() -> Host {
         Host {
             memory_length: 0,
-            map: vec![0; 289],
-            view: vec![0; 1537],
-            device: vec![0; 37],
-            queue: vec![0; 7],
+            map: vec![0; WT_MAP],
+            view: vec![0; WT_VIEW],
+            device: vec![0; WT_DEVICE],
+            queue: vec![0; WT_QUEUE],
             memory: Vec::new(),
             lent: None,
             lies: Vec::new(),
@@ -76,14 +85,18 @@ impl Host {
             "memory" => [self.memory_length] = numbers(rest)?,
             "map" => {
                 let [] = numbers(rest)?;
-                self.map = vec![0; 289];
+                self.map = vec![0; WT_MAP];
             }
             "map_count" => [self.map[0]] = numbers(rest)?,
             "region" => self.add_region(rest)?,
             "flatten" => {
                 let [] = numbers(rest)?;
-                let said =
-                    library::flatten(&self.map, self.memory_length, &mut self.view, &mut [0; 3]);
+                let said = library::flatten(
+                    &self.map,
+                    self.memory_length,
+                    &mut self.view,
+                    &mut [0; WT_RESULT],
+                );
                 return if said == 0 {
                     Ok(true)
                 } else {
@@ -92,7 +105,7 @@ impl Host {
             }
             "view" => {
                 let [] = numbers(rest)?;
-                self.view = vec![0; 1537];
+                self.view = vec![0; WT_VIEW];
             }
             "view_count" => [self.view[0]] = numbers(rest)?,
             "range" => {
@@ -110,10 +123,10 @@ impl Host {
 
     fn add_region(&mut self, words: &[&str]) -> Result<(), String> {
         let (kind, named) = words.split_first().ok_or("no kind")?;
-        if self.map[0] >= 32 {
+        if self.map[0] as usize >= WT_REGIONS {
             return Err("no room for a region".to_string());
         }
-        let at = 1 + 9 * self.map[0] as usize;
+        let at = WT_MAP_REGION(self.map[0] as usize);
         self.map[0] += 1;
         self.map[at] = number(kind)?;
         for (i, value) in fields(named, REGION)?.iter().enumerate() {
@@ -123,16 +136,16 @@ impl Host {
     }
 
     fn put_range(&mut self, index: u64, words: &[&str]) -> Result<(), String> {
-        if index >= 256 {
+        if index as usize >= WT_RANGES {
             return Err("no room for a range".to_string());
         }
-        let at = 1 + 6 * index as usize;
-        self.view[at..at + 6].copy_from_slice(&all_fields(words, RANGE)?);
+        let range = WT_VIEW_RANGE(index as usize)..WT_VIEW_RANGE(index as usize + 1);
+        self.view[range].copy_from_slice(&all_fields(words, RANGE)?);
         Ok(())
     }
 
     fn calls_map(&mut self, words: &[&str]) -> Result<Option<String>, String> {
-        let mut result = [0; 3];
+        let mut result = [0; WT_RESULT];
         let number = match words[0] {
             "sheet" => {
                 let sheet = bytes(&words[1..])?;
@@ -165,7 +178,7 @@ impl Host {
             usable,
             requested,
             &mut self.device,
-            &mut [0; 3],
+            &mut [0; WT_RESULT],
         ) {
             0 => Ok("set up".to_string()),
             number => Ok(format!("refused {number}")),
@@ -176,7 +189,7 @@ impl Host {
     fn access(&self, [address, width]: [u64; 2]) -> Result<String, String> {
         let mut parts = Vec::new();
         for device in [&self.device[..], &[]] {
-            let mut r = [0; 3];
+            let mut r = [0; WT_RESULT];
             let number =
                 library::route(&self.view, self.memory_length, device, address, width, &mut r);
             parts.push(match (number, r) {
@@ -185,7 +198,7 @@ impl Host {
                 _ => format!("refused {number}"),
             });
         }
-        let mut r = [0; 3];
+        let mut r = [0; WT_RESULT];
         parts.push(match (library::look_up(&self.view, self.memory_length, address, &mut r), r) {
             (0, [1, region, offset]) => format!("region {region} {offset:x}"),
             (0, [0, 0, 0]) => "nothing".to_string(),
@@ -206,8 +219,10 @@ impl Host {
             }
             "plugged_word" => {
                 let [word] = numbers(rest)?;
-                self.plugged_word =
-                    usize::try_from(word).ok().filter(|w| *w < 16).ok_or("a table has 16 words")?;
+                self.plugged_word = usize::try_from(word)
+                    .ok()
+                    .filter(|w| *w < TABLE_WORDS)
+                    .ok_or("past the table")?;
             }
             "queue" => {
                 for (word, value) in self.queue.iter_mut().zip(fields(rest, QUEUE)?) {
@@ -232,7 +247,7 @@ impl Host {
             }
             "configuration" => {
                 let [] = numbers(rest)?;
-                let mut bytes = [0; 56];
+                let mut bytes = [0; WT_CONFIGURATION];
                 let number = library::configuration(&self.device, &mut bytes);
                 return Ok(Some(if number == 0 {
                     hex(&bytes)
@@ -246,12 +261,17 @@ impl Host {
         };
         let done = if number == 0 { "done".to_string() } else { format!("refused {number}") };
         let d = &self.device;
-        let (usable, requested, plugged, pinned) = (d[3], d[4], d[PLUGGED], d[PINNED]);
+        let (usable, requested, plugged, pinned) = (
+            d[WT_DEVICE_USABLE_SIZE],
+            d[WT_DEVICE_REQUESTED_SIZE],
+            d[WT_DEVICE_PLUGGED],
+            d[WT_DEVICE_PINNED],
+        );
         Ok(Some(format!("{done}, usable {usable:x} requested {requested:x} plugged {plugged:x} pinned {pinned:x}")))
     }
 
     fn block_of_byte(&self, offset: u64) -> String {
-        let mut r = [0; 3];
+        let mut r = [0; WT_RESULT];
         match (library::block_of_byte(&self.device, offset, &mut r), r) {
             (0, [1, block, 0]) => format!("block {block}"),
             (0, [0, 0, 0]) => "outside".to_string(),
@@ -262,14 +282,14 @@ impl Host {
     /// Source 000's layout; every byte of padding is ff.
     fn request(&mut self, [kind, addr, blocks]: [u64; 3]) -> Result<String, String> {
         let short = |n: u64| u16::try_from(n).map_err(|_| format!("{n} does not fit 2 bytes"));
-        let mut request = [0xff; 24];
-        request[0..2].copy_from_slice(&short(kind)?.to_le_bytes());
-        request[8..16].copy_from_slice(&addr.to_le_bytes());
-        request[16..18].copy_from_slice(&short(blocks)?.to_le_bytes());
-        let mut response = [0; 10];
+        let mut request = [0xff; WT_REQUEST];
+        request[WT_REQUEST_TYPE..][..2].copy_from_slice(&short(kind)?.to_le_bytes());
+        request[WT_REQUEST_ADDR..][..8].copy_from_slice(&addr.to_le_bytes());
+        request[WT_REQUEST_BLOCKS..][..2].copy_from_slice(&short(blocks)?.to_le_bytes());
+        let mut response = [0; WT_RESPONSE];
         let number = library::request(&mut self.device, &request, &mut response);
         let refused = if number == 0 { String::new() } else { format!("refused {number}, ") };
-        let plugged = self.device[PLUGGED + self.plugged_word];
+        let plugged = self.device[WT_DEVICE_PLUGGED + self.plugged_word];
         Ok(format!("{refused}response {} plugged {plugged:x}", hex(&response)))
     }
 
@@ -292,12 +312,15 @@ impl Host {
             "run" => return self.run(numbers(rest)?).map(Some),
             _ => return Ok(None),
         };
-        Ok(Some(format!("{number} size {} stop {}", self.queue[0], self.queue[6])))
+        Ok(Some(format!(
+            "{number} size {} stop {}",
+            self.queue[WT_QUEUE_SIZE], self.queue[WT_QUEUE_STOP]
+        )))
     }
 
     fn step(&mut self) -> Result<String, String> {
         let before = self.memory.clone();
-        let mut r = [0; 3];
+        let mut r = [0; WT_RESULT];
         let lent = self.lent.unwrap_or(self.memory.len());
         let memory = self.memory.get_mut(..lent).ok_or("more is lent than there is")?;
         let outcome =
@@ -313,7 +336,7 @@ impl Host {
 
     fn run(&mut self, [k]: [u64; 1]) -> Result<String, String> {
         let before = self.memory.clone();
-        let mut r = [0; 3];
+        let mut r = [0; WT_RESULT];
         let number = library::run(
             &self.view,
             &mut self.device,
@@ -336,8 +359,10 @@ impl Host {
         let [_, _, _, _, seen, own, stop] = self.queue[..] else {
             return String::new();
         };
-        let mut text =
-            format!(" seen {seen} used {own} stop {stop} plugged {:x}", self.device[PLUGGED]);
+        let mut text = format!(
+            " seen {seen} used {own} stop {stop} plugged {:x}",
+            self.device[WT_DEVICE_PLUGGED]
+        );
         for (from, count) in &self.shown {
             let stretch = from.map_or(0..0, |from| from..(from + count).min(before.len()));
             let mut digest: u64 = 0;
@@ -387,7 +412,7 @@ impl Host {
             "descriptor" => self.put_descriptor(rest)?,
             "offer" => {
                 let [flags, idx, slot, head] = all_fields(rest, ["flags", "idx", "slot", "head"])?;
-                let ring = self.queue[2];
+                let ring = self.queue[WT_QUEUE_AVAILABLE];
                 self.put(ring, 2, flags)?;
                 self.put(ring + 2, 2, idx)?;
                 self.put(ring + 4 + 2 * slot, 2, head)?;
@@ -414,7 +439,7 @@ impl Host {
     fn put_descriptor(&mut self, words: &[&str]) -> Result<(), String> {
         let (index, named) = words.split_first().ok_or("no index")?;
         let [addr, length, flags, next] = all_fields(named, ["addr", "length", "flags", "next"])?;
-        let at = self.queue[1] + 16 * number(index)?;
+        let at = self.queue[WT_QUEUE_DESCRIPTORS] + 16 * number(index)?;
         self.put(at, 8, addr)?;
         self.put(at + 8, 4, length)?;
         self.put(at + 12, 2, flags)?;
