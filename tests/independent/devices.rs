@@ -64,7 +64,7 @@ pub fn damage_device(r: &mut Rng, words: &mut [u64]) {
         6 => damage_block_size(r, words),
         0 => {
             // A plugged or pinned bit somewhere.
-            let bit = 1u64 << r.below(64);
+            let bit = 1u64 << r.below(WORD_BLOCKS as u64);
             words[WT_DEVICE_PLUGGED + r.below(2 * TABLE_WORDS as u64) as usize] ^= bit;
         }
         1 => {
@@ -73,7 +73,7 @@ pub fn damage_device(r: &mut Rng, words: &mut [u64]) {
             let end = size / words[WT_DEVICE_BLOCK_SIZE].max(1);
             if end < MOST_BLOCKS {
                 let from = r.pick(&[WT_DEVICE_PLUGGED, WT_DEVICE_PINNED]);
-                words[from + (end / 64) as usize] |= 1 << (end % 64);
+                words[from + end as usize / WORD_BLOCKS] |= 1 << (end as usize % WORD_BLOCKS);
             }
         }
         2 => {

@@ -204,7 +204,7 @@ fn tower_level(r: &mut Rng, built: &mut Built, ways: u64, shift: u64, unit: u64)
     let child = &mut built.nodes[below - 1];
     let size = child.size;
     child.parent = parent;
-    child.priority = r.pick(&[0, 1, 255]);
+    child.priority = r.pick(&[0, 1, MOST_FIELD]);
     child.offset = shift * r.below(3);
     for i in 1..ways {
         built.nodes.push(Node {

@@ -7,13 +7,21 @@ use crate::model::{self, *};
 use crate::parked::parked;
 use crate::report::Tally;
 
-/// The largest priority field that there is, and fields around the default.
-const MOST_PRIORITY: u64 = 255;
-const PRIORITIES: [u64; 8] = [0, 0, 0, 1, 127, 128, 129, MOST_PRIORITY];
+/// Priority fields: often none, the ends, and those around priority 0.
+const PRIORITIES: [u64; 8] =
+    [0, 0, 0, 1, FIELD_OF_ZERO - 1, FIELD_OF_ZERO, FIELD_OF_ZERO + 1, MOST_FIELD];
 /// Ports that there are.
-pub const PORTS: u64 = 256;
+pub const PORTS: u64 = MOST_FIELD + 1;
 /// The memory length of document 01's program.
-const PROGRAM_MEMORY: u64 = 65536;
+pub const PROGRAM_MEMORY: u64 = 65536;
+
+/// Kinds, each as often as it is chosen.
+const MIXES: [&[u64]; 4] = [
+    &[CONTAINER, CONTAINER, RAM, RAM, RAM, MMIO, MMIO, ALIAS, ALIAS, ALIAS, MANAGED],
+    &[CONTAINER, RAM, MMIO, MMIO, ALIAS, ALIAS, ALIAS, ALIAS, ALIAS, ALIAS, MANAGED],
+    &[CONTAINER, CONTAINER, CONTAINER, RAM, RAM, RAM, RAM, MMIO, MANAGED],
+    &[RAM, MMIO],
+];
 
 /// A map, mostly acceptable, and a memory length for it.
 pub fn random_map(r: &mut Rng) -> (Vec<Node>, u64) {
@@ -76,11 +84,8 @@ pub fn plain_map(r: &mut Rng) -> (Vec<Node>, u64) {
         let size = grid.place(r).max(1);
         let alias_offset = if r.one_in(3) { 0 } else { grid.place(r) };
         let target = r.below(i as u64);
-        let priority = if distinct {
-            1 + (i as u64 * 37 + ports) % MOST_PRIORITY
-        } else {
-            r.pick(&PRIORITIES)
-        };
+        let priority =
+            if distinct { 1 + (i as u64 * 37 + ports) % MOST_FIELD } else { r.pick(&PRIORITIES) };
         let node = &mut nodes[i];
         node.size = size;
         node.priority = priority;
@@ -106,15 +111,10 @@ pub fn plain_map(r: &mut Rng) -> (Vec<Node>, u64) {
 /// Kinds of all nodes but the root, which stays a container.
 fn choose_kinds(r: &mut Rng, nodes: &mut [Node]) {
     let mut managed = false;
-    let weights: &[u64] = r.pick(&[
-        &[0, 0, 1, 1, 1, 2, 2, 3, 3, 3, 4][..],
-        &[0, 1, 2, 2, 3, 3, 3, 3, 3, 3, 4][..],
-        &[0, 0, 0, 1, 1, 1, 1, 2, 4][..],
-        &[1, 2][..],
-    ]);
+    let mix = r.pick(&MIXES);
     let root = nodes.len() - 1;
     for (i, node) in nodes[..root].iter_mut().enumerate() {
-        node.kind = r.pick(weights);
+        node.kind = r.pick(mix);
         if (node.kind == ALIAS && i == 0) || (node.kind == MANAGED && managed && !r.one_in(40)) {
             node.kind = RAM;
         }
@@ -167,7 +167,7 @@ fn part_priorities(r: &mut Rng, nodes: &mut [Node]) {
             if !(0..j).any(|i| siblings_clash(nodes, &nodes[i], &nodes[j])) {
                 break;
             }
-            nodes[j].priority = r.below(MOST_PRIORITY + 1);
+            nodes[j].priority = r.below(MOST_FIELD + 1);
         }
     }
 }

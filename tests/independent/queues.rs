@@ -5,9 +5,7 @@ use crate::ffi;
 use crate::model::*;
 use crate::report::Tally;
 
-/// How many indices a ring's counters have before they begin again.
-const INDICES: u64 = 1 << 16;
-/// The largest index, and the stops that a queue can have.
+/// The largest index of a ring, and the stops that a queue can have.
 const LAST_INDEX: u64 = INDICES - 1;
 const STOP_OR_NONE: [u64; 7] = [0, RING, AHEAD, HEAD, CHAIN, REACH, SHAPE];
 

@@ -476,12 +476,16 @@ impl Builder {
     /// How many steps a run is asked for.
     fn random_k(&self, r: &mut Rng) -> u64 {
         let offered = u64::from(self.offered);
+        let most = MOST_STEPS;
         match r.below(6) {
-            _ if self.full => r.pick(&[255, 256, 257, 300, 511, u64::MAX]),
-            0 => r.pick(&[0, 1, 2, 255, 256, 257, 65536, 1 << 32, (1 << 32) + 1, u64::MAX]),
+            _ if self.full => r.pick(&[most - 1, most, most + 1, 300, 511, u64::MAX]),
+            0 => {
+                let wide = 1 << 32; // past 32 bits
+                r.pick(&[0, 1, 2, most - 1, most, most + 1, 65536, wide, wide + 1, u64::MAX])
+            }
             1 => offered,
             2 => offered.saturating_sub(1),
-            3 => 256,
+            3 => most,
             _ => r.below(20),
         }
     }

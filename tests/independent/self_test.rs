@@ -22,7 +22,6 @@ pub fn worked_values() -> Result<(), String> {
 
 /// The map of 001, its variant with B made MMIO, and two sheets that are refused.
 fn worked_maps() -> Result<(), String> {
-    const MEMORY_LENGTH: u64 = 65536;
     let hex = |text: &str| -> Vec<u8> {
         text.split_whitespace().map(|b| u8::from_str_radix(b, 16).unwrap()).collect()
     };
@@ -32,7 +31,7 @@ fn worked_maps() -> Result<(), String> {
     let lines = |nodes: Vec<Node>| -> Vec<(u64, u64, u64, u64)> {
         Tree::new(nodes).runs().iter().map(|r| (r.first, r.last, r.node, r.offset)).collect()
     };
-    let nodes = model::read_sheet(&hex(text), MEMORY_LENGTH).map_err(|e| format!("{e:?}"))?;
+    let nodes = model::read_sheet(&hex(text), PROGRAM_MEMORY).map_err(|e| format!("{e:?}"))?;
     let expected = [
         (0, 0x1fff, 3, 0),
         (0x2000, 0x2fff, 0, 0),
@@ -47,7 +46,7 @@ fn worked_maps() -> Result<(), String> {
     let seen: Vec<u64> = lines(changed).iter().map(|l| l.2).collect();
     demand(seen == [3, 0, 2, 1, 2], "B made MMIO: C D B E B")?;
     let place =
-        |sheet: &[u8]| model::read_sheet(sheet, MEMORY_LENGTH).map_err(|e| (e.number, e.place.0));
+        |sheet: &[u8]| model::read_sheet(sheet, PROGRAM_MEMORY).map_err(|e| (e.number, e.place.0));
     demand(place(&[]) == Err((SHORT, 0)), "the empty sheet")?;
     demand(place(&[0x80, 0]) == Err((NUMBER, 1)), "80 00")
 }

@@ -49,7 +49,7 @@ pub fn run_case(r: &mut Rng, tally: &mut Tally) -> Result<(), String> {
         if !r.one_in(3) {
             break;
         }
-        scene.k = r.pick(&[0, 1, 2, 256]);
+        scene.k = r.pick(&[0, 1, 2, MOST_STEPS]);
     }
     Ok(())
 }

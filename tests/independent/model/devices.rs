@@ -27,7 +27,7 @@ pub const SMALLEST_BLOCK: u64 = 4096;
 pub const LARGEST_BLOCK: u64 = 1 << 30;
 
 /// Blocks in one word of a table.
-const WORD_BLOCKS: usize = u64::BITS as usize;
+pub const WORD_BLOCKS: usize = u64::BITS as usize;
 
 #[derive(Clone, PartialEq, Eq, Debug)]
 pub struct Device {

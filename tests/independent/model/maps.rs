@@ -10,7 +10,7 @@ pub const MANAGED: u64 = 4;
 pub const LAST_KIND: u64 = MANAGED;
 
 /// "Priority field or port over 255" is refused.
-const MOST_FIELD: u64 = 255;
+pub const MOST_FIELD: u64 = 255;
 /// "Field f from 1 to 255 means f - 128."
 pub const FIELD_OF_ZERO: u64 = 128;
 

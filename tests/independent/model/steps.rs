@@ -14,9 +14,9 @@ pub const INDIRECT: u16 = 4;
 pub const NO_NOTIFY: u16 = 1;
 
 /// "A k over 256 counts as 256."
-const MOST_STEPS: u64 = 256;
+pub const MOST_STEPS: u64 = 256;
 /// "The distance taken modulo 65,536."
-const INDICES: u64 = 1 << 16;
+pub const INDICES: u64 = 1 << 16;
 
 #[derive(Clone, Copy, PartialEq, Eq, Debug)]
 pub enum Outcome {
