@@ -9,8 +9,8 @@ use lib.Dec.{eqb, leb, ltb}
 use borrow.Author.Tests.{le-leb, lt-leb, leb-true, eqb-true, eqb-false, eq-eqb, ne-eqb}
 use Rattle.device_words.specs.Table.{bitAt, within, tableOf, heldIn}
 use Rattle.device_words.specs.Device.{noBlocks, withPlugged}
-use Rattle.device_words.specs.Request.{blockOf, inRange, plugAnswer, unplugAnswer, unplugAllAnswer, heldOf, stateAnswer, answered, withRun, isAck, acknowledged, changedBy}
-use Rattle.device_words.specs.Contracts.{Sized, Run}
+use Rattle.device_words.specs.Request.{blockOf, inRange, plugAnswer, unplugAnswer, unplugAllAnswer, heldOf, stateAnswer, answered, withRun, isAck, tableAfterAck, changedBy}
+use Rattle.device_words.specs.Contracts.{Sized, FirstBlock}
 use Rattle.device_words.specs.declared.request.Response.{Response}
 use Rattle.device_words.specs.declared.request.Response.the-variants as response
 use Rattle.device_words.specs.Device.{MemoryDevice}
@@ -106,7 +106,7 @@ module _ (d : MemoryDevice) (r : Request) (z : Sized d) (h : inRange d r ≡ tru
   pub in-facts : (0 < d .«block_size») × (d .addr ≤ r .addr .0) × (blockOf d (r .addr .0) < 1024)
   in-facts = (z .some, in-above d r h, omega (arith, in-blocks, in-some d r h))
 
-  pub in-run : (from : ℕ) → from ≡ blockOf d (r .addr .0) → Run d r from
+  pub in-run : (from : ℕ) → from ≡ blockOf d (r .addr .0) → FirstBlock d r from
   in-run from e = record { first = e; room = omega (arith, in-blocks) }
 
 -- the answer by the request's type
@@ -182,7 +182,7 @@ ack-kind d r h n m = go (eqb (r .kind) 1) refl (eqb (r .kind) 3) (rw (ne-eqb (r 
     go false f false e = absurd (never (sym e))
 
 -- the change
-pub change-ack : (d : MemoryDevice) (r : Request) (x : Response) → isAck x ≡ true → withPlugged d (acknowledged d r) ≡ changedBy d r x
+pub change-ack : (d : MemoryDevice) (r : Request) (x : Response) → isAck x ≡ true → withPlugged d (tableAfterAck d r) ≡ changedBy d r x
 unfolding changedBy
 change-ack d r x h = rw h
 
@@ -190,12 +190,12 @@ pub change-none : (d : MemoryDevice) (r : Request) (x : Response) → isAck x �
 unfolding changedBy
 change-none d r x h = rw h
 
-pub table-all : (d : MemoryDevice) (r : Request) → r .kind ≡ 2 → noBlocks ≡ acknowledged d r
+pub table-all : (d : MemoryDevice) (r : Request) → r .kind ≡ 2 → noBlocks ≡ tableAfterAck d r
 table-all d r e = rw e
 
 -- PLUG sets the blocks, UNPLUG clears them
 pub table-run : (d : MemoryDevice) (r : Request) (from : ℕ) → from ≡ blockOf d (r .addr .0) → (r .kind ≡ 2 → ⊥) → ((r .kind ≡ 0 → ⊥) → r .kind ≡ 1)
-    → tableOf (λ b. cond (within from (r .blocks) b) (eqb (r .kind) 0) (bitAt (d .plugged) b)) ≡ acknowledged d r
+    → tableOf (λ b. cond (within from (r .blocks) b) (eqb (r .kind) 0) (bitAt (d .plugged) b)) ≡ tableAfterAck d r
 table-run d r from e n f = go (eqb (r .kind) 0) refl
   where
     go : (x : Bool) → eqb (r .kind) 0 ≡ x

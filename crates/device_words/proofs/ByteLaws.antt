@@ -10,7 +10,7 @@ use lib.Dec.{lit<}
 use lib.ListN.{length, getD, set, replicate}
 use lib.Seq.{sets}
 use Rattle.map_records.proofs.StoreLaws.{over}
-use Rattle.device_words.specs.Bytes.{le, numberBy, number, responseBytes, configurationBytes}
+use Rattle.device_words.specs.Bytes.{le, numberBy, leNumber, responseBytes, configurationBytes}
 use Rattle.device_words.specs.Request.{requestOf, bytesOf}
 use Rattle.device_words.specs.declared.request.Request.{Request}
 
@@ -30,16 +30,16 @@ numbers-agree f g a b (suc k) h =
     omega (arith, first, rest)
 
 -- reading gives back the k low bytes of what was written; all of it, where it has no more
-pub number-low : (k n : ℕ) → number (le k n) 0 k ≡ n % 256 ^ k
+pub number-low : (k n : ℕ) → leNumber (le k n) 0 k ≡ n % 256 ^ k
 unfolding numberBy le
 number-low zero n = sym (mod-one n)
 number-low (suc k) n =
-    let tail : number (n % 256 ∷ le k (n / 256)) 1 k ≡ number (le k (n / 256)) 0 k =
+    let tail : leNumber (n % 256 ∷ le k (n / 256)) 1 k ≡ leNumber (le k (n / 256)) 0 k =
     numbers-agree (λ i. getD (n % 256 ∷ le k (n / 256)) i 0) (λ i. getD (le k (n / 256)) i 0) 1 0 k (λ i l. let x : 1 + i ≡ suc i = omega arith in let y : 0 + i ≡ i = omega arith in rw (x, y)) in
     let low : n % 256 ^ suc k ≡ n / 256 % 256 ^ k * 256 + n % 256 = ap (λ (x : ℕ). n % x) (pow-suc 256 k) ∙ mod-mul n {m = 256 ^ k} {c = 256} (one-le-pow k 256 (lit< tt)) (lit< tt) in
     omega (arith, tail, number-low k (n / 256), low)
 
-pub number-le : (k n : ℕ) → n < 256 ^ k → number (le k n) 0 k ≡ n
+pub number-le : (k n : ℕ) → n < 256 ^ k → leNumber (le k n) 0 k ≡ n
 number-le k n h = number-low k n ∙ mod-eq-of-lt h
 
 -- so of a request's 24 bytes: each field reads back, cut to its bytes; whole, where it has no more

@@ -13,17 +13,17 @@ use Rattle.map_records.proofs.Order.{eq-or-not}
 use Rattle.map_check.proofs.Bools.{and-fst, and-snd}
 use Rattle.device_words.specs.Table.{IsTable}
 use Rattle.device_words.specs.Device.{MemoryDevice, noDevice, withTables, withPlugged, withPins, powerBelow, setupOk, deviceOk}
-use Rattle.device_words.specs.Words.{isDevice, deviceAt, deviceOf, deviceWords}
+use Rattle.device_words.specs.Words.{isDevice, deviceAt, deviceOf, deviceWords, deviceLength}
 use Rattle.device_words.proofs.TableLaws.{zero-word}
 
 -- what words stand for
-pub device-at : (w : List ℕ) → length w ≡ 37 → deviceOf w ≡ deviceAt w
+pub device-at : (w : List ℕ) → length w ≡ deviceLength → deviceOf w ≡ deviceAt w
 unfolding deviceOf
-device-at w l = rw (eq-eqb (length w) 37 l)
+device-at w l = rw (eq-eqb (length w) deviceLength l)
 
-pub device-none : (w : List ℕ) → (length w ≡ 37 → ⊥) → deviceOf w ≡ noDevice
+pub device-none : (w : List ℕ) → (length w ≡ deviceLength → ⊥) → deviceOf w ≡ noDevice
 unfolding deviceOf
-device-none w n = rw (ne-eqb (length w) 37 n)
+device-none w n = rw (ne-eqb (length w) deviceLength n)
 
 -- 27 refuses the record of zeros
 pub none-refused : deviceOk noDevice ≡ false
@@ -31,27 +31,27 @@ unfolding deviceOk setupOk powerBelow
 none-refused = refl
 
 -- the lengths of the two tables
-pub plugged-length : (w : List ℕ) → length w ≡ 37 → length (take 16 (drop 5 w)) ≡ 16
+pub plugged-length : (w : List ℕ) → length w ≡ deviceLength → length (take 16 (drop 5 w)) ≡ 16
 plugged-length w l = omega (arith, length-take 16 (drop 5 w), length-drop 5 w)
 
-pub pins-length : (w : List ℕ) → length w ≡ 37 → length (take 16 (drop 21 w)) ≡ 16
+pub pins-length : (w : List ℕ) → length w ≡ deviceLength → length (take 16 (drop 21 w)) ≡ 16
 pins-length w l = omega (arith, length-take 16 (drop 21 w), length-drop 21 w)
 
 -- the plug table of words of 64 bits, however many there are, is sixteen such words
 pub words-table : (w : List ℕ) → ((i : ℕ) → getD w i 0 < 2 ^ 64) → IsTable (deviceOf w .plugged)
 words-table w h =
     ⊎-elim
-    (λ (l : length w ≡ 37). rw (device-at w l)
+    (λ (l : length w ≡ deviceLength). rw (device-at w l)
     (record { size = plugged-length w l; words = λ i p. rw (getD-take 16 (drop 5 w) i 0 p, getD-drop 5 w i 0) (h (5 + i)) }))
     (λ n. rw (device-none w n) (record { size = refl; words = λ i p. rw (zero-word 16 i) (lit< tt) }))
-    (eq-or-not (length w) 37)
+    (eq-or-not (length w) deviceLength)
 
 -- the two halves of 32 words
 pub halves : (v : List ℕ) → length v ≡ 32 → take 16 v ++ take 16 (drop 16 v) ≡ v
 halves v l = ap (λ (r : List ℕ). take 16 v ++ r) (take-all 16 (drop 16 v) (omega (arith, length-drop 16 v))) ∙ take-append-drop 16 v
 
 -- what the words of a record are where its parts were stored; each goes by the five numbers ahead
-pub words-back : (w : List ℕ) → length w ≡ 37 → deviceWords (deviceAt w) ≡ w
+pub words-back : (w : List ℕ) → length w ≡ deviceLength → deviceWords (deviceAt w) ≡ w
 unfolding deviceWords
 words-back [] l = absurd (omega arith)
 words-back (a ∷ []) l = absurd (omega arith)
@@ -61,11 +61,11 @@ words-back (a ∷ b ∷ c ∷ d ∷ []) l = absurd (omega arith)
 words-back (a ∷ b ∷ c ∷ d ∷ e ∷ v) l = ap (λ (r : List ℕ). a ∷ b ∷ c ∷ d ∷ e ∷ r) (halves v (omega arith))
 
 -- words stand for a record whose words they are
-pub words-of : (w : List ℕ) → length w ≡ 37 → deviceWords (deviceOf w) ≡ w
+pub words-of : (w : List ℕ) → length w ≡ deviceLength → deviceWords (deviceOf w) ≡ w
 words-of w l = ap deviceWords (device-at w l) ∙ words-back w l
 
 -- other words in the plug table, or in the pins
-pub plug-stored : (w t : List ℕ) → length w ≡ 37 → take 5 w ++ (t ++ drop 16 (drop 5 w)) ≡ deviceWords (withPlugged (deviceAt w) t)
+pub plug-stored : (w t : List ℕ) → length w ≡ deviceLength → take 5 w ++ (t ++ drop 16 (drop 5 w)) ≡ deviceWords (withPlugged (deviceAt w) t)
 unfolding deviceWords
 plug-stored [] t l = absurd (omega arith)
 plug-stored (a ∷ []) t l = absurd (omega arith)
@@ -75,7 +75,7 @@ plug-stored (a ∷ b ∷ c ∷ d ∷ []) t l = absurd (omega arith)
 plug-stored (a ∷ b ∷ c ∷ d ∷ e ∷ v) t l =
     ap (λ (r : List ℕ). a ∷ b ∷ c ∷ d ∷ e ∷ (t ++ r)) (sym (take-all 16 (drop 16 v) (omega (arith, length-drop 16 v))))
 
-pub pins-stored : (w t : List ℕ) → length w ≡ 37 → take 21 w ++ (t ++ drop 16 (drop 21 w)) ≡ deviceWords (withPins (deviceAt w) t)
+pub pins-stored : (w t : List ℕ) → length w ≡ deviceLength → take 21 w ++ (t ++ drop 16 (drop 21 w)) ≡ deviceWords (withPins (deviceAt w) t)
 unfolding deviceWords
 pins-stored [] t l = absurd (omega arith)
 pins-stored (a ∷ []) t l = absurd (omega arith)
@@ -87,7 +87,7 @@ pins-stored (a ∷ b ∷ c ∷ d ∷ e ∷ v) t l =
     ∙ ap (λ (r : List ℕ). a ∷ b ∷ c ∷ d ∷ e ∷ (take 16 v ++ r)) (append-nil t)
 
 -- the record of a record's words
-pub words-length : (d : MemoryDevice) → length (d .plugged) ≡ 16 → length (d .pinned) ≡ 16 → length (deviceWords d) ≡ 37
+pub words-length : (d : MemoryDevice) → length (d .plugged) ≡ 16 → length (d .pinned) ≡ 16 → length (deviceWords d) ≡ deviceLength
 unfolding deviceWords
 words-length d p q = omega (arith, length-append (d .plugged) (d .pinned))
 
@@ -100,7 +100,7 @@ record-back d p q =
     ∙ ap (λ (t : List ℕ). withTables d (d .plugged) t) (take-all 16 (d .pinned) (omega arith))
 
 -- other words in both tables, one after the other
-pub tables-stored : (w t u p q : List ℕ) → length w ≡ 37 → t ≡ p → u ≡ q → length p ≡ 16
+pub tables-stored : (w t u p q : List ℕ) → length w ≡ deviceLength → t ≡ p → u ≡ q → length p ≡ 16
     → take 21 (take 5 w ++ (t ++ drop 16 (drop 5 w))) ++ (u ++ drop 16 (drop 21 (take 5 w ++ (t ++ drop 16 (drop 5 w))))) ≡ deviceWords (withTables (deviceAt w) p q)
 tables-stored w t u p q l e f h =
     let d = withPlugged (deviceAt w) p in
@@ -111,8 +111,8 @@ tables-stored w t u p q l e f h =
 
 -- what the test of the words says
 module _ (w : List ℕ) (x : Bool) (e : x ≡ (isDevice w && deviceOk (deviceOf w))) where
-  pub ok-length : x ≡ true → length w ≡ 37
-  ok-length h = eqb-true (length w) 37 (and-fst (isDevice w) (deviceOk (deviceOf w)) (sym e ∙ h))
+  pub ok-length : x ≡ true → length w ≡ deviceLength
+  ok-length h = eqb-true (length w) deviceLength (and-fst (isDevice w) (deviceOk (deviceOf w)) (sym e ∙ h))
 
   pub ok-device : x ≡ true → deviceOk (deviceOf w) ≡ true
   ok-device h = and-snd (isDevice w) (deviceOk (deviceOf w)) (sym e ∙ h)
@@ -122,7 +122,7 @@ module _ (w : List ℕ) (x : Bool) (e : x ≡ (isDevice w && deviceOk (deviceOf 
     where
       go : (y : Bool) → isDevice w ≡ y → (y && deviceOk (deviceOf w)) ≡ false → deviceOk (deviceOf w) ≡ false
       go true p q = q
-      go false p q = ap deviceOk (device-none w (eqb-false (length w) 37 p)) ∙ none-refused
+      go false p q = ap deviceOk (device-none w (eqb-false (length w) deviceLength p)) ∙ none-refused
 
 -- the one test gives both
 pub device-first : (w : List ℕ) → (isDevice w && deviceOk (deviceOf w)) ≡ deviceOk (deviceOf w)

@@ -11,7 +11,7 @@ use Rattle.map_check.proofs.Bools.{never, and-fst, and-snd}
 use Rattle.device_words.specs.Table.{bitAt, within, tableOf}
 use Rattle.device_words.specs.Device.{MemoryDevice, pinnedIn, isPinned, anyPinned, noBlocks, withPlugged, setupKept, tablesOk, deviceOk}
 use Rattle.device_words.specs.Contracts.{Valid}
-use Rattle.device_words.specs.Request.{blockOf, inRange, heldOf, answered, isAck, withRun, acknowledged, changedBy}
+use Rattle.device_words.specs.Request.{blockOf, inRange, heldOf, answered, isAck, withRun, tableAfterAck, changedBy}
 use Rattle.device_words.specs.declared.request.Request.{Request}
 use Rattle.device_words.specs.declared.request.Response.the-variants as response
 use Rattle.device_words.proofs.TableLaws.{table-bit, zero-bit}
@@ -126,7 +126,7 @@ change-kept d r h = go (isAck (answered d r)) refl
         device-ok (withPlugged d noBlocks) (setup-of d h) (λ b l s. absurd (never (sym s ∙ zero-bit b)))
         (λ b l s. absurd (never (sym s ∙ ap (isPinned d) (sym (zero-add b)) ∙ none-of (λ i. pinnedIn (d .pinned) (0 + i)) 1024 n b l)))
 
-    by-kind : isAck (answered d r) ≡ true → (x y : Bool) → eqb (r .kind) 2 ≡ x → eqb (r .kind) 0 ≡ y → deviceOk (withPlugged d (acknowledged d r)) ≡ true
+    by-kind : isAck (answered d r) ≡ true → (x y : Bool) → eqb (r .kind) 2 ≡ x → eqb (r .kind) 0 ≡ y → deviceOk (withPlugged d (tableAfterAck d r)) ≡ true
     by-kind a true y e f =
         let k : r .kind ≡ 2 = eqb-true (r .kind) 2 e in
         let n = unpinned-all (anyPinned d 0 1024) (ap isAck (all-answer d r k) ∙ a) in
@@ -140,6 +140,6 @@ change-kept d r h = go (isAck (answered d r)) refl
         let n = unpinned-run (ltb (heldOf d r (d .plugged)) (r .blocks)) (anyPinned d (blockOf d (r .addr .0)) (r .blocks)) (ap isAck (unplug-answer d r k i) ∙ a) in
         rw k (unplugs i n)
 
-    go : (x : Bool) → isAck (answered d r) ≡ x → deviceOk (cond x (withPlugged d (acknowledged d r)) d) ≡ true
+    go : (x : Bool) → isAck (answered d r) ≡ x → deviceOk (cond x (withPlugged d (tableAfterAck d r)) d) ≡ true
     go true a = by-kind a (eqb (r .kind) 2) (eqb (r .kind) 0) refl refl
     go false a = h

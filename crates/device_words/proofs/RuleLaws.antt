@@ -10,7 +10,7 @@ use lib.Dec.{eqb, leb, ltb}
 use lib.Pow.{pow-mono}
 use borrow.Author.Tests.{leb-true, ltb-true, lt-ltb, eqb-true, eqb-false, not-true, eq-eqb, ne-eqb}
 use Rattle.device_words.specs.Table.{bitAt, only, implies}
-use Rattle.map_check.specs.Fault.{limit}
+use Rattle.map_records.specs.Limits.{limit}
 use Rattle.device_words.specs.Device.{MemoryDevice, isPinned, powerBelow, blockOk, regionOk, addrOk, sizesOk, setupOk, setupKept, tablesOk, deviceOk}
 use Rattle.device_words.specs.Contracts.{Valid, Sized}
 use Rattle.device_words.proofs.TableLaws.{all-true, all-of}

@@ -13,8 +13,18 @@ unfoldable pub numberBy : (ℕ → ℕ) → ℕ → ℕ → ℕ
 numberBy byte at zero = 0
 numberBy byte at (suc k) = byte at + 256 * numberBy byte (suc at) k
 
-abbrev pub number : List ℕ → ℕ → ℕ → ℕ
-number s at k = numberBy (λ i. getD s i 0) at k
+abbrev pub leNumber : List ℕ → ℕ → ℕ → ℕ
+leNumber s at k = numberBy (λ i. getD s i 0) at k
+
+-- 'Requests: 24 bytes .. responses 10'; 'The configuration is 56 bytes'
+abbrev pub requestLength : ℕ
+requestLength = 24
+
+abbrev pub responseLength : ℕ
+responseLength = 10
+
+abbrev pub configurationLength : ℕ
+configurationLength = 56
 
 -- a response: type, padding, state
 unfoldable pub responseBytes : ℕ → ℕ → List ℕ

@@ -4,8 +4,8 @@ use mathlib.Core.List.{List}
 use Prim.Native.Nat.{ℕ, zero, suc, _+_, _*_, _/_, _%_, _^_}
 use lib.Dec.{eqb, leb}
 use lib.ListN.{replicate}
-use Rattle.map_check.specs.Fault.{limit}
-use Rattle.device_words.specs.Table.{bitAt, turned, setIn, anyBelow, only, implies}
+use Rattle.map_records.specs.Limits.{limit}
+use Rattle.device_words.specs.Table.{bitAt, turned, setIn, anyBelow, only, implies, mostBlocks, tableLength}
 
 -- the memory device. Block b is plugged, or pinned, where bit b % 64 of word b / 64 is set
 pub record MemoryDevice : Type 0 where
@@ -42,7 +42,7 @@ blockOk b = powerBelow b 19
 
 -- 'region = managed node's size, a multiple, at most 1,024 blocks': a region's size is never 0
 abbrev pub regionOk : ℕ → ℕ → Bool
-regionOk b region = not (eqb region 0) && eqb (region % b) 0 && leb region (1024 * b)
+regionOk b region = not (eqb region 0) && eqb (region % b) 0 && leb region (mostBlocks * b)
 
 -- 'addr a multiple, addr + region at most 2^48'
 abbrev pub addrOk : ℕ → ℕ → ℕ → Bool
@@ -70,7 +70,7 @@ deviceOk d = setupKept d && tablesOk d
 
 -- 'Fresh: nothing plugged or pinned'
 abbrev pub noBlocks : List ℕ
-noBlocks = replicate 16 0
+noBlocks = replicate tableLength 0
 
 abbrev pub withTables : MemoryDevice → List ℕ → List ℕ → MemoryDevice
 withTables d plugged pinned =
@@ -104,7 +104,7 @@ noDevice =
 
 -- 'Plugged size = block size times the blocks plugged in the record'
 unfoldable pub pluggedSize : MemoryDevice → ℕ
-pluggedSize d = d .«block_size» * setIn (d .plugged) 16
+pluggedSize d = d .«block_size» * setIn (d .plugged) tableLength
 
 -- 'Block of a byte = its offset in the managed node divided by the block size'
 abbrev pub blockOfByte : MemoryDevice → ℕ → ℕ

@@ -5,29 +5,29 @@ use Prim.Native.Nat.{ℕ, _+_, _-_, _*_, _/_, _%_}
 use lib.Dec.{eqb, leb, ltb}
 use lib.ListN.{replicate}
 use Rattle.map_check.specs.Reply.{Reply, accepted}
-use Rattle.device_words.specs.Bytes.{le, number, responseBytes}
-use Rattle.device_words.specs.Table.{turned, heldIn}
+use Rattle.device_words.specs.Bytes.{le, leNumber, responseBytes}
+use Rattle.device_words.specs.Table.{turned, heldIn, mostBlocks}
 use Rattle.device_words.specs.Device.{MemoryDevice, anyPinned, noBlocks, withPlugged, pluggedSize}
 use Rattle.device_words.specs.declared.request.Request.{Request}
 use Rattle.device_words.specs.declared.request.Response.{Response}
 use Rattle.device_words.specs.declared.request.Response.the-variants as response
 
 -- 'Types PLUG 0, UNPLUG 1, UNPLUG ALL 2, STATE 3'
-abbrev pub plug : ℕ
-plug = 0
+abbrev pub plugType : ℕ
+plugType = 0
 
-abbrev pub unplug : ℕ
-unplug = 1
+abbrev pub unplugType : ℕ
+unplugType = 1
 
-abbrev pub unplugAll : ℕ
-unplugAll = 2
+abbrev pub unplugAllType : ℕ
+unplugAllType = 2
 
-abbrev pub state : ℕ
-state = 3
+abbrev pub stateType : ℕ
+stateType = 3
 
 -- 'Requests: 24 bytes .. little-endian; padding is ignored in': source 000's layout
 abbrev pub requestOf : List ℕ → Request
-requestOf s = record { kind = number s 0 2; addr = record { 0 = number s 8 8 }; blocks = number s 16 2 }
+requestOf s = record { kind = leNumber s 0 2; addr = record { 0 = leNumber s 8 8 }; blocks = leNumber s 16 2 }
 
 -- the same layout written: type, padding 0, address, number of blocks, padding 0; of each number as many of its low bytes as its field has
 unfoldable pub bytesOf : Request → List ℕ
@@ -38,10 +38,10 @@ abbrev pub forRun : ℕ → ℕ → ℕ → Request
 forRun kind a n = record { kind = kind; addr = record { 0 = a }; blocks = n }
 
 abbrev pub plugRun : ℕ → ℕ → Request
-plugRun = forRun plug
+plugRun = forRun plugType
 
 abbrev pub unplugRun : ℕ → ℕ → Request
-unplugRun = forRun unplug
+unplugRun = forRun unplugType
 
 -- 'ACK 0, NACK 1, BUSY 2, ERROR 3', and the state: 'zero except in an acknowledged STATE', 0 all plugged, 1 all unplugged, 2 mixed
 abbrev pub typeOf : Response → ℕ
@@ -94,7 +94,7 @@ unplugAnswer d r =
 
 -- 'UNPLUG ALL: any pin BUSY; else ACK'
 abbrev pub unplugAllAnswer : MemoryDevice → Response
-unplugAllAnswer d = cond (anyPinned d 0 1024) response.Busy response.Ack
+unplugAllAnswer d = cond (anyPinned d 0 mostBlocks) response.Busy response.Ack
 
 -- 'STATE: ACK with 0 all plugged, 1 all unplugged, 2 mixed'
 abbrev pub stateAnswer : MemoryDevice → Request → Response
@@ -107,18 +107,18 @@ ranged d r x = cond (inRange d r) x response.Error
 -- the answer to a request; 'any other ERROR'
 unfoldable pub answered : MemoryDevice → Request → Response
 answered d r =
-    cond (eqb (r .kind) plug) (ranged d r (plugAnswer d r))
-    (cond (eqb (r .kind) unplug) (ranged d r (unplugAnswer d r))
-    (cond (eqb (r .kind) unplugAll) (unplugAllAnswer d) (cond (eqb (r .kind) state) (ranged d r (stateAnswer d r)) response.Error)))
+    cond (eqb (r .kind) plugType) (ranged d r (plugAnswer d r))
+    (cond (eqb (r .kind) unplugType) (ranged d r (unplugAnswer d r))
+    (cond (eqb (r .kind) unplugAllType) (unplugAllAnswer d) (cond (eqb (r .kind) stateType) (ranged d r (stateAnswer d r)) response.Error)))
 
 -- the plug table with a request's blocks set or not
 abbrev pub withRun : MemoryDevice → Request → Bool → List ℕ
 withRun d r on = turned (d .plugged) (blockOf d (r .addr .0)) (r .blocks) on
 
 -- the plug table after an acknowledged request
-abbrev pub acknowledged : MemoryDevice → Request → List ℕ
-acknowledged d r =
-    cond (eqb (r .kind) plug) (withRun d r true) (cond (eqb (r .kind) unplug) (withRun d r false) (cond (eqb (r .kind) unplugAll) noBlocks (d .plugged)))
+abbrev pub tableAfterAck : MemoryDevice → Request → List ℕ
+tableAfterAck d r =
+    cond (eqb (r .kind) plugType) (withRun d r true) (cond (eqb (r .kind) unplugType) (withRun d r false) (cond (eqb (r .kind) unplugAllType) noBlocks (d .plugged)))
 
 -- an acknowledgement of PLUG, UNPLUG or UNPLUG ALL
 abbrev pub isAck : Response → Bool
@@ -132,15 +132,15 @@ isAck response.Mixed = false
 
 -- only an acknowledgement changes the table
 unfoldable pub changedBy : MemoryDevice → Request → Response → MemoryDevice
-changedBy d r x = cond (isAck x) (withPlugged d (acknowledged d r)) d
+changedBy d r x = cond (isAck x) (withPlugged d (tableAfterAck d r)) d
 
 -- document 01's answer, the ten bytes of the response, and the next state
-pub record Outcome : Type 0 where
+pub record RequestOutcome : Type 0 where
   pub reply : Reply
   pub response : List ℕ
   pub device : MemoryDevice
 
 -- a request carried out on a valid record
-abbrev pub carriedOut : MemoryDevice → Request → Outcome
+abbrev pub carriedOut : MemoryDevice → Request → RequestOutcome
 carriedOut d r =
     record { reply = accepted; response = responseBytes (typeOf (answered d r)) (stateOf (answered d r)); device = changedBy d r (answered d r) }

@@ -6,10 +6,17 @@ use Prim.Native.Nat.{ℕ, zero, suc, _+_, _*_, _/_, _%_, _^_, _<_}
 use lib.Dec.{eqb, leb, ltb}
 use lib.ListN.{length, getD}
 
+-- 'at most 1,024 blocks', in sixteen words
+abbrev pub mostBlocks : ℕ
+mostBlocks = 1024
+
+abbrev pub tableLength : ℕ
+tableLength = 16
+
 -- sixteen words of 64 bits: what the type of a table in the code, [u64; 16], says
 pub record IsTable (t : List ℕ) : Type 0 where
-  pub size : length t ≡ 16
-  pub words : (i : ℕ) → i < 16 → getD t i 0 < 2 ^ 64
+  pub size : length t ≡ tableLength
+  pub words : (i : ℕ) → i < tableLength → getD t i 0 < 2 ^ 64
 
 -- bit k of a word
 abbrev pub bitOf : ℕ → ℕ → Bool
@@ -30,7 +37,7 @@ wordsOf f i zero = []
 wordsOf f i (suc n) = wordOf (λ k. f (i * 64 + k)) 64 ∷ wordsOf f (suc i) n
 
 unfoldable pub tableOf : (ℕ → Bool) → List ℕ
-tableOf f = wordsOf f 0 16
+tableOf f = wordsOf f 0 tableLength
 
 -- block b is one of the n blocks from `from` on
 abbrev pub within : ℕ → ℕ → ℕ → Bool
@@ -65,7 +72,7 @@ anyBelow f (suc n) = anyBelow f n || f n
 
 -- every block of a table's 1,024 of which f holds is one of which g holds too; is below n
 abbrev pub implies : (ℕ → Bool) → (ℕ → Bool) → Bool
-implies f g = allBelow (λ b. not (f b) || g b) 1024
+implies f g = allBelow (λ b. not (f b) || g b) mostBlocks
 
 abbrev pub only : (ℕ → Bool) → ℕ → Bool
 only f n = implies f (λ b. ltb b n)

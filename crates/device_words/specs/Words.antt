@@ -1,15 +1,26 @@
--- The device's 37 words where they lie: five numbers, sixteen words of the plug table, sixteen of the pins. Assumes nothing: these are definitions.
+-- The device's words where they lie: five numbers, the words of the plug table, those of the pins. Assumes nothing: these are definitions.
 use mathlib.Core.Bool.{Bool, cond}
 use mathlib.Core.List.{List, _∷_, _++_}
 use Prim.Native.Nat.{ℕ}
 use lib.Dec.{eqb}
 use lib.ListN.{length, getD, take, drop}
 use Rattle.device_words.specs.Device.{MemoryDevice, noDevice}
+use Rattle.device_words.specs.Table.{tableLength}
+
+-- how many there are, and where the two tables begin
+abbrev pub deviceLength : ℕ
+deviceLength = 37
+
+abbrev pub pluggedFrom : ℕ
+pluggedFrom = 5
+
+abbrev pub pinnedFrom : ℕ
+pinnedFrom = 21
 
 abbrev pub isDevice : List ℕ → Bool
-isDevice w = eqb (length w) 37
+isDevice w = eqb (length w) deviceLength
 
--- the record in 37 words
+-- the record in as many words
 abbrev pub deviceAt : List ℕ → MemoryDevice
 deviceAt w =
     record {
@@ -18,8 +29,8 @@ deviceAt w =
       «region_size» = getD w 2 0;
       «usable_size» = getD w 3 0;
       «requested_size» = getD w 4 0;
-      plugged = take 16 (drop 5 w);
-      pinned = take 16 (drop 21 w);
+      plugged = take tableLength (drop pluggedFrom w);
+      pinned = take tableLength (drop pinnedFrom w);
     }
 
 -- the record that words stand for: words of another number are a record of zeros, which 27 refuses

@@ -3,9 +3,11 @@ ghost use mathlib.Core.Path.{_≡_};
 ghost use mathlib.Core.Bool.{true};
 ghost use Prim.Native.Nat.{_<_};
 ghost use lib.ListN.{length};
-ghost use Rattle.device_words.specs.Words.{deviceAt, deviceOf};
+ghost use Rattle.device_words.specs.Words.{deviceAt, deviceOf, deviceLength};
 ghost use Rattle.device_words.specs.Request.{inRange, plugAnswer, unplugAnswer, unplugAllAnswer, stateAnswer, answered, isAck};
-ghost use Rattle.device_words.specs.Contracts.{Sized, Fit, Run, ackWords, Responds};
+ghost use Rattle.device_words.specs.Contracts.{Sized, SizedWords, FirstBlock, ackWords, Responds};
+use crate::bytes::REQUEST_BYTES;
+use crate::bytes::RESPONSE_BYTES;
 use crate::device::block_of_request;
 use crate::pins::any_pinned;
 use crate::plugs::all_plugged;
@@ -16,6 +18,7 @@ use crate::request::Response;
 use crate::request::answer_bytes;
 use crate::request::request_of;
 use crate::state::plugged_size;
+use crate::table::BLOCKS;
 use crate::words::ADDR;
 use crate::words::BLOCK_SIZE;
 use crate::words::REQUESTED_SIZE;
@@ -32,7 +35,7 @@ const STATE: u64 = 3;
 
 // Is the request aligned, of a block at least, and whole in the usable part? No sum wraps.
 fn in_range(device: &[u64], request: Request) -> bool
-    requires { ⌜ Fit (now device) × (request .blocks < 65536) ⌝ }
+    requires { ⌜ SizedWords (now device) × (request .blocks < 65536) ⌝ }
     ensures { λ r. ⌜ r ≡ inRange (deviceAt (now (device .entry))) request ⌝ }
 {
     let address = request.addr.0;
@@ -52,8 +55,8 @@ fn in_range(device: &[u64], request: Request) -> bool
 
 // The first block of a request in range.
 fn run_start(device: &[u64], request: Request) -> usize
-    requires { ⌜ Fit (now device) × (inRange (deviceAt (now device)) request ≡ true) ⌝ }
-    ensures { λ r. ⌜ Run (deviceAt (now (device .entry))) request r ⌝ }
+    requires { ⌜ SizedWords (now device) × (inRange (deviceAt (now device)) request ≡ true) ⌝ }
+    ensures { λ r. ⌜ FirstBlock (deviceAt (now (device .entry))) request r ⌝ }
 {
     let addr = request.addr;
     let first = GuestAddress(device[ADDR]);
@@ -63,7 +66,7 @@ fn run_start(device: &[u64], request: Request) -> usize
 
 // PLUG: a block already plugged is an error, and more than requested is not taken.
 fn plug_answer(device: &[u64], request: Request, from: usize) -> Response
-    requires { ⌜ Fit (now device) × Run (deviceAt (now device)) request from ⌝ }
+    requires { ⌜ SizedWords (now device) × FirstBlock (deviceAt (now device)) request from ⌝ }
     ensures { λ r. ⌜ r ≡ plugAnswer (deviceAt (now (device .entry))) request ⌝ }
 {
     let count = request.blocks as usize;
@@ -79,7 +82,7 @@ fn plug_answer(device: &[u64], request: Request, from: usize) -> Response
 
 // UNPLUG: a block not plugged is an error, and a pinned one is busy.
 fn unplug_answer(device: &[u64], request: Request, from: usize) -> Response
-    requires { ⌜ Fit (now device) × Run (deviceAt (now device)) request from ⌝ }
+    requires { ⌜ SizedWords (now device) × FirstBlock (deviceAt (now device)) request from ⌝ }
     ensures { λ r. ⌜ r ≡ unplugAnswer (deviceAt (now (device .entry))) request ⌝ }
 {
     let count = request.blocks as usize;
@@ -94,10 +97,10 @@ fn unplug_answer(device: &[u64], request: Request, from: usize) -> Response
 
 // UNPLUG ALL: any pin is busy.
 fn unplug_all_answer(device: &[u64]) -> Response
-    requires { ⌜ Fit (now device) ⌝ }
+    requires { ⌜ SizedWords (now device) ⌝ }
     ensures { λ r. ⌜ r ≡ unplugAllAnswer (deviceAt (now (device .entry))) ⌝ }
 {
-    if any_pinned(device, 0, 1024) {
+    if any_pinned(device, 0, BLOCKS) {
         return Response::Busy;
     }
     Response::Ack
@@ -105,7 +108,7 @@ fn unplug_all_answer(device: &[u64]) -> Response
 
 // STATE: all plugged, all unplugged, or mixed.
 fn state_answer(device: &[u64], request: Request, from: usize) -> Response
-    requires { ⌜ Fit (now device) × Run (deviceAt (now device)) request from ⌝ }
+    requires { ⌜ SizedWords (now device) × FirstBlock (deviceAt (now device)) request from ⌝ }
     ensures { λ r. ⌜ r ≡ stateAnswer (deviceAt (now (device .entry))) request ⌝ }
 {
     let count = request.blocks as usize;
@@ -120,7 +123,7 @@ fn state_answer(device: &[u64], request: Request, from: usize) -> Response
 
 // The answer to a request.
 fn answer_of(device: &[u64], request: Request) -> Response
-    requires { ⌜ Fit (now device) × (request .blocks < 65536) ⌝ }
+    requires { ⌜ SizedWords (now device) × (request .blocks < 65536) ⌝ }
     ensures { λ r. ⌜ r ≡ answered (deviceAt (now (device .entry))) request ⌝ }
 {
     let kind = request.kind;
@@ -159,12 +162,12 @@ fn is_ack(response: Response) -> bool
 
 // The plug table of an acknowledged request, changed where it lies.
 fn acknowledge(device: &mut [u64], request: Request)
-    requires { ⌜ Fit (now device) × (isAck (answered (deviceAt (now device)) request) ≡ true) ⌝ }
+    requires { ⌜ SizedWords (now device) × (isAck (answered (deviceAt (now device)) request) ≡ true) ⌝ }
     ensures { λ _. ⌜ now (device .exit) ≡ ackWords (now (device .entry)) request ⌝ }
 {
     let kind = request.kind;
     if kind == UNPLUG_ALL {
-        set_plugged(device, 0, 1024, false);
+        set_plugged(device, 0, BLOCKS, false);
         return;
     }
     let from = run_start(device, request);
@@ -175,8 +178,8 @@ fn acknowledge(device: &mut [u64], request: Request)
 
 // A request answered and carried out. Only an acknowledgement changes the words, and of them only the
 // plug table, once.
-pub fn respond(device: &mut [u64], bytes: [u8; 24]) -> [u8; 10]
-    requires { ⌜ (length (now device) ≡ 37) × Sized (deviceOf (now device)) ⌝ }
+pub fn respond(device: &mut [u64], bytes: [u8; REQUEST_BYTES]) -> [u8; RESPONSE_BYTES]
+    requires { ⌜ (length (now device) ≡ deviceLength) × Sized (deviceOf (now device)) ⌝ }
     ensures { λ r. ⌜ Responds (now (device .entry)) bytes r (now (device .exit)) ⌝ }
 {
     let request = request_of(bytes);

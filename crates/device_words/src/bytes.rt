@@ -3,8 +3,15 @@ ghost use mathlib.Core.Path.{_≡_};
 ghost use lib.ListN.{length};
 ghost use lib.Seq.{sets};
 ghost use Prim.Native.Nat.{_+_, _≤_, _<_, _^_};
-ghost use Rattle.device_words.specs.Bytes.{le, number, responseBytes, configurationBytes};
+ghost use Rattle.device_words.specs.Bytes.{le, leNumber, responseBytes, configurationBytes, configurationLength};
 use map_records::map::GuestAddress;
+
+// The bytes of a request, of a response and of the configuration.
+pub const REQUEST_BYTES: usize = 24;
+
+pub const RESPONSE_BYTES: usize = 10;
+
+pub const CONFIGURATION_BYTES: usize = 56;
 
 pub fn wide(x: u8) -> u64
     ensures { λ r. ⌜ (r ≡ x) × (r < 256) ⌝ }
@@ -15,7 +22,7 @@ pub fn wide(x: u8) -> u64
 // The number in the k bytes from a place on.
 pub fn number_at(bytes: &[u8], at: usize, k: usize) -> u64
     requires { ⌜ (k ≤ 8) × (at + k ≤ length (now bytes)) ⌝ }
-    ensures { λ r. ⌜ (r ≡ number (now (bytes .entry)) at k) × (r < 256 ^ k) ⌝ }
+    ensures { λ r. ⌜ (r ≡ leNumber (now (bytes .entry)) at k) × (r < 256 ^ k) ⌝ }
 {
     let mut value: u64 = 0;
     let mut i = k;
@@ -38,11 +45,11 @@ pub fn copy_bytes(to: &mut [u8], from: &[u8])
     }
 }
 
-// The ten bytes of a response.
-pub fn response_bytes(kind: u16, state: u16) -> [u8; 10]
+// A response's bytes.
+pub fn response_bytes(kind: u16, state: u16) -> [u8; RESPONSE_BYTES]
     ensures { λ r. ⌜ r ≡ responseBytes kind state ⌝ }
 {
-    let mut out = [0u8; 10];
+    let mut out = [0u8; RESPONSE_BYTES];
     out[0] = (kind % 256) as u8;
     out[1] = (kind / 256) as u8;
     out[8] = (state % 256) as u8;
@@ -64,7 +71,7 @@ fn put(out: &mut [u8], at: usize, n: u64)
     }
 }
 
-// The 56 bytes of the configuration. The second eight are node_id and padding.
+// The configuration's bytes. The second eight are node_id and padding.
 pub fn put_configuration(
     out: &mut [u8],
     block: u64,
@@ -74,7 +81,7 @@ pub fn put_configuration(
     plugged: u64,
     requested: u64,
 )
-    requires { ⌜ length (now out) ≡ 56 ⌝ }
+    requires { ⌜ length (now out) ≡ configurationLength ⌝ }
     ensures { λ _. ⌜ now (out .exit) ≡ configurationBytes block (addr .0) region usable plugged requested ⌝ }
 {
     put(out, 0, block);

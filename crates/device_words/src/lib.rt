@@ -1,4 +1,4 @@
-// The memory device where it lies: 37 words that a caller lends. Inner functions, which rely on what
+// The memory device where it lies: words that a caller lends. Inner functions, which rely on what
 // their callers show; no entry point is here, and nothing of it is exported to hosts.
 pub mod answer;
 pub mod bytes;

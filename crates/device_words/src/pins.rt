@@ -3,32 +3,33 @@ ghost use mathlib.Core.Path.{_≡_};
 ghost use mathlib.Core.Bool.{true};
 ghost use Prim.Native.Nat.{_+_, _≤_, _<_};
 ghost use lib.ListN.{length};
-ghost use Rattle.device_words.specs.Table.{bitAt, implies};
+ghost use Rattle.device_words.specs.Table.{bitAt, implies, mostBlocks};
 ghost use Rattle.device_words.specs.Device.{isPinned, anyPinned};
-ghost use Rattle.device_words.specs.Words.{deviceAt};
+ghost use Rattle.device_words.specs.Words.{deviceAt, deviceLength};
 ghost use Rattle.device_words.specs.Contracts.{pinWords};
+use crate::table::BLOCKS;
 use crate::table::none_set;
 use crate::table::part_of;
 use crate::table::with_run;
+use crate::words::DEVICE_WORDS;
 use crate::words::PINNED;
 use crate::words::PLUGGED;
-use crate::words::WORDS;
 
 // Is one of the n blocks from `from` on pinned? One block is a run of 1, and all are 1,024.
 pub fn any_pinned(device: &[u64], from: usize, n: usize) -> bool
-    requires { ⌜ (length (now device) ≡ 37) × (from + n ≤ 1024) ⌝ }
+    requires { ⌜ (length (now device) ≡ deviceLength) × (from + n ≤ mostBlocks) ⌝ }
     ensures { λ r. ⌜ r ≡ anyPinned (deviceAt (now (device .entry))) from n ⌝ }
 {
-    !none_set(&device[PINNED..WORDS], from, n)
+    !none_set(&device[PINNED..DEVICE_WORDS], from, n)
 }
 
 // Is a block of any number pinned? None is from 1,024 on.
 pub fn is_pinned(device: &[u64], b: usize) -> bool
-    requires { ⌜ length (now device) ≡ 37 ⌝ }
+    requires { ⌜ length (now device) ≡ deviceLength ⌝ }
     ensures value { λ r. ⌜ r ≡ isPinned (deviceAt (now (device .entry))) b ⌝ }
-    ensures room { λ r. ⌜ (r ≡ true → b < 1024) ⌝ }
+    ensures room { λ r. ⌜ (r ≡ true → b < mostBlocks) ⌝ }
 {
-    if b < 1024 {
+    if b < BLOCKS {
         return any_pinned(device, b, 1);
     }
     false
@@ -36,16 +37,16 @@ pub fn is_pinned(device: &[u64], b: usize) -> bool
 
 // Is every pinned block plugged?
 pub fn pins_plugged(device: &[u64]) -> bool
-    requires { ⌜ length (now device) ≡ 37 ⌝ }
+    requires { ⌜ length (now device) ≡ deviceLength ⌝ }
     ensures { λ r. ⌜ r ≡ implies (isPinned (deviceAt (now (device .entry)))) (bitAt (deviceAt (now (device .entry)) .plugged)) ⌝ }
 {
-    part_of(&device[PINNED..WORDS], &device[PLUGGED..PINNED])
+    part_of(&device[PINNED..DEVICE_WORDS], &device[PLUGGED..PINNED])
 }
 
 // A block is pinned, or no longer.
 pub fn set_pin(device: &mut [u64], b: usize, on: bool)
-    requires { ⌜ (length (now device) ≡ 37) × (b < 1024) ⌝ }
+    requires { ⌜ (length (now device) ≡ deviceLength) × (b < mostBlocks) ⌝ }
     ensures { λ _. ⌜ now (device .exit) ≡ pinWords (now (device .entry)) b on ⌝ }
 {
-    with_run(&mut device[PINNED..WORDS], b, 1, on);
+    with_run(&mut device[PINNED..DEVICE_WORDS], b, 1, on);
 }

@@ -3,6 +3,8 @@ ghost use mathlib.Core.Path.{_≡_};
 ghost use Prim.Native.Nat.{_<_};
 ghost use Rattle.device_words.specs.Bytes.{responseBytes};
 ghost use Rattle.device_words.specs.Request.{requestOf, typeOf, stateOf};
+use crate::bytes::REQUEST_BYTES;
+use crate::bytes::RESPONSE_BYTES;
 use crate::bytes::number_at;
 use crate::bytes::response_bytes;
 use map_records::map::GuestAddress;
@@ -26,7 +28,7 @@ pub enum Response {
 }
 
 // The request in 24 bytes.
-pub fn request_of(bytes: [u8; 24]) -> Request
+pub fn request_of(bytes: [u8; REQUEST_BYTES]) -> Request
     ensures { λ r. ⌜ (r ≡ requestOf bytes) × (r .blocks < 65536) ⌝ }
 {
     let kind = number_at(&bytes, 0, 2);
@@ -68,7 +70,7 @@ fn state_of(response: Response) -> u16
 }
 
 // The ten bytes of an answer.
-pub fn answer_bytes(response: Response) -> [u8; 10]
+pub fn answer_bytes(response: Response) -> [u8; RESPONSE_BYTES]
     ensures { λ r. ⌜ r ≡ responseBytes (typeOf response) (stateOf response) ⌝ }
 {
     let kind = type_of(response);

@@ -4,18 +4,19 @@ ghost use Prim.Native.Nat.{_≤_, _<_};
 ghost use mathlib.Core.Bool.{true, _&&_};
 ghost use lib.ListN.{length};
 ghost use Rattle.device_words.specs.Device.{blockOk, regionOk, addrOk, sizesOk, setupOk, setupKept, tablesOk, deviceOk};
-ghost use Rattle.device_words.specs.Words.{isDevice, deviceAt, deviceOf};
+ghost use Rattle.device_words.specs.Words.{isDevice, deviceAt, deviceOf, deviceLength};
 use crate::pins::pins_plugged;
 use crate::plugs::blocks_in;
+use crate::table::BLOCKS;
 use crate::table::only_below;
 use crate::words::ADDR;
 use crate::words::BLOCK_SIZE;
+use crate::words::DEVICE_WORDS;
 use crate::words::PINNED;
 use crate::words::PLUGGED;
 use crate::words::REGION_SIZE;
 use crate::words::REQUESTED_SIZE;
 use crate::words::USABLE_SIZE;
-use crate::words::WORDS;
 use map_records::map::GuestAddress;
 use map_records::numbers::LIMIT;
 use map_records::numbers::sum_within;
@@ -38,7 +39,7 @@ fn region_ok(block: u64, region: u64) -> bool
     requires { ⌜ (0 < block) × (block ≤ 1073741824) ⌝ }
     ensures { λ r. ⌜ r ≡ regionOk block region ⌝ }
 {
-    !(region == 0) & (region % block == 0) & (region <= 1024 * block)
+    !(region == 0) & (region % block == 0) & (region <= (BLOCKS as u64) * block)
 }
 
 fn addr_ok(block: u64, addr: GuestAddress, region: u64) -> bool
@@ -69,7 +70,7 @@ pub fn setup_ok(block: u64, addr: GuestAddress, region: u64, usable: u64, reques
 // 27's rules over the two tables: what is plugged lies in the usable part, and what is pinned is
 // plugged. That both lie in the region follows.
 fn tables_ok(device: &[u64]) -> bool
-    requires { ⌜ (length (now device) ≡ 37) × (setupKept (deviceAt (now device)) ≡ true) ⌝ }
+    requires { ⌜ (length (now device) ≡ deviceLength) × (setupKept (deviceAt (now device)) ≡ true) ⌝ }
     ensures { λ r. ⌜ r ≡ tablesOk (deviceAt (now (device .entry))) ⌝ }
 {
     let blocks = blocks_in(device, device[USABLE_SIZE]);
@@ -80,7 +81,7 @@ fn tables_ok(device: &[u64]) -> bool
 pub fn device_ok(device: &[u64]) -> bool
     ensures { λ r. ⌜ r ≡ (isDevice (now (device .entry)) && deviceOk (deviceOf (now (device .entry)))) ⌝ }
 {
-    if device.len() == WORDS {
+    if device.len() == DEVICE_WORDS {
         let addr = GuestAddress(device[ADDR]);
         if setup_ok(
             device[BLOCK_SIZE],

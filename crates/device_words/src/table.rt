@@ -4,18 +4,23 @@ ghost use mathlib.Core.Bool.{cond};
 ghost use Prim.Native.Nat.{_+_, _*_, _≤_, _<_};
 ghost use lib.Dec.{eqb, ltb};
 ghost use lib.ListN.{length, replicate};
-ghost use Rattle.device_words.specs.Table.{bitOf, bitAt, wordOf, within, turned, heldIn, bitsIn, setIn};
+ghost use Rattle.device_words.specs.Table.{bitOf, bitAt, wordOf, within, turned, heldIn, bitsIn, setIn, mostBlocks, tableLength};
 ghost use Rattle.device_words.specs.Contracts.{onlyBelow, partOf};
+
+// The most blocks of a region, and the words of their table.
+pub const BLOCKS: usize = 1024;
+
+pub const TABLE_WORDS: usize = 16;
 
 // Every bit of a word.
 const ALL: u64 = 0xffff_ffff_ffff_ffff;
 
 // Is block b set? None is from 1,024 on.
 pub fn is_in(words: &[u64], b: usize) -> bool
-    requires { ⌜ length (now words) ≡ 16 ⌝ }
+    requires { ⌜ length (now words) ≡ tableLength ⌝ }
     ensures { λ r. ⌜ r ≡ bitAt (now (words .entry)) b ⌝ }
 {
-    if b < 1024 {
+    if b < BLOCKS {
         let word = words[b / 64];
         let k = (b % 64) as u64;
         return (word >> k) % 2 == 1;
@@ -39,7 +44,7 @@ fn bits_below(start: usize, b: usize) -> u64
 
 // Word i, with those of its blocks that are among the n blocks from `from` on set or not.
 fn word_with(word: u64, i: usize, from: usize, n: usize, on: bool) -> u64
-    requires { ⌜ (from + n ≤ 1024) × (i < 16) ⌝ }
+    requires { ⌜ (from + n ≤ mostBlocks) × (i < tableLength) ⌝ }
     ensures { λ r. ⌜ r ≡ wordOf (λ k. cond (within from n (i * 64 + k)) on (bitOf word k)) 64 ⌝ }
 {
     let start = i * 64;
@@ -55,7 +60,7 @@ fn word_with(word: u64, i: usize, from: usize, n: usize, on: bool) -> u64
 
 // The n blocks from `from` on are set or not, where they lie.
 pub fn with_run(words: &mut [u64], from: usize, n: usize, on: bool)
-    requires { ⌜ (length (now words) ≡ 16) × (from + n ≤ 1024) ⌝ }
+    requires { ⌜ (length (now words) ≡ tableLength) × (from + n ≤ mostBlocks) ⌝ }
     ensures { λ _. ⌜ now (words .exit) ≡ turned (now (words .entry)) from n on ⌝ }
 {
     let end = from + n;
@@ -70,15 +75,15 @@ pub fn with_run(words: &mut [u64], from: usize, n: usize, on: bool)
 
 // No block is set any longer.
 pub fn clear(words: &mut [u64])
-    requires { ⌜ length (now words) ≡ 16 ⌝ }
-    ensures { λ _. ⌜ now (words .exit) ≡ replicate 16 0 ⌝ }
+    requires { ⌜ length (now words) ≡ tableLength ⌝ }
+    ensures { λ _. ⌜ now (words .exit) ≡ replicate tableLength 0 ⌝ }
 {
-    with_run(words, 0, 1024, false);
+    with_run(words, 0, BLOCKS, false);
 }
 
 // Are the n blocks from `from` on all set, or all not set? Then turning them so changes no word.
 fn run_is(words: &[u64], from: usize, n: usize, on: bool) -> bool
-    requires { ⌜ (length (now words) ≡ 16) × (from + n ≤ 1024) ⌝ }
+    requires { ⌜ (length (now words) ≡ tableLength) × (from + n ≤ mostBlocks) ⌝ }
     ensures { λ r. ⌜ r ≡ eqb (heldIn (now (words .entry)) from n) (cond on n 0) ⌝ }
 {
     let end = from + n;
@@ -96,7 +101,7 @@ fn run_is(words: &[u64], from: usize, n: usize, on: bool) -> bool
 
 // Is none of the n blocks from `from` on set?
 pub fn none_set(words: &[u64], from: usize, n: usize) -> bool
-    requires { ⌜ (length (now words) ≡ 16) × (from + n ≤ 1024) ⌝ }
+    requires { ⌜ (length (now words) ≡ tableLength) × (from + n ≤ mostBlocks) ⌝ }
     ensures { λ r. ⌜ r ≡ eqb (heldIn (now (words .entry)) from n) 0 ⌝ }
 {
     run_is(words, from, n, false)
@@ -104,7 +109,7 @@ pub fn none_set(words: &[u64], from: usize, n: usize) -> bool
 
 // Is each of the n blocks from `from` on set?
 pub fn all_set(words: &[u64], from: usize, n: usize) -> bool
-    requires { ⌜ (length (now words) ≡ 16) × (from + n ≤ 1024) ⌝ }
+    requires { ⌜ (length (now words) ≡ tableLength) × (from + n ≤ mostBlocks) ⌝ }
     ensures { λ r. ⌜ r ≡ eqb (heldIn (now (words .entry)) from n) n ⌝ }
 {
     run_is(words, from, n, true)
@@ -122,11 +127,11 @@ fn ones(word: u64) -> u64
 // How many blocks are set. Block b is bit b % 64 of word b / 64: each of the 1,024 blocks is one bit of one of the
 // sixteen words, so the ones of all words together count every set block, and none twice (`set-held`, likewise).
 pub fn total(words: &[u64]) -> u64
-    requires { ⌜ length (now words) ≡ 16 ⌝ }
-    ensures { λ r. ⌜ (r ≡ setIn (now (words .entry)) 16) × (r ≤ 1024) ⌝ }
+    requires { ⌜ length (now words) ≡ tableLength ⌝ }
+    ensures { λ r. ⌜ (r ≡ setIn (now (words .entry)) tableLength) × (r ≤ mostBlocks) ⌝ }
 {
     let mut count: u64 = 0;
-    for i in 0..16usize {
+    for i in 0..TABLE_WORDS {
         let word = words[i];
         if word != 0 {
             count += ones(word);
@@ -137,10 +142,10 @@ pub fn total(words: &[u64]) -> u64
 
 // Is every block that is set below n?
 pub fn only_below(words: &[u64], n: usize) -> bool
-    requires { ⌜ (length (now words) ≡ 16) × (n ≤ 1024) ⌝ }
+    requires { ⌜ (length (now words) ≡ tableLength) × (n ≤ mostBlocks) ⌝ }
     ensures { λ r. ⌜ r ≡ onlyBelow (now (words .entry)) n ⌝ }
 {
-    for i in 0..16usize {
+    for i in 0..TABLE_WORDS {
         let word = words[i];
         let start = i * 64;
         if n <= start {
@@ -159,10 +164,10 @@ pub fn only_below(words: &[u64], n: usize) -> bool
 
 // Is every block that is set also set in the other table?
 pub fn part_of(words: &[u64], whole: &[u64]) -> bool
-    requires { ⌜ (length (now words) ≡ 16) × (length (now whole) ≡ 16) ⌝ }
+    requires { ⌜ (length (now words) ≡ tableLength) × (length (now whole) ≡ tableLength) ⌝ }
     ensures { λ r. ⌜ r ≡ partOf (now (words .entry)) (now (whole .entry)) ⌝ }
 {
-    for i in 0..16usize {
+    for i in 0..TABLE_WORDS {
         let word = words[i];
         if (word & whole[i]) != word {
             return false;

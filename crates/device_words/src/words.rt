@@ -1,7 +1,7 @@
-// Where each part of a device lies among its 37 words.
+// Where each part of a device lies among its words.
 ghost use mathlib.Core.Path.{_≡_};
 ghost use lib.ListN.{length};
-ghost use Rattle.device_words.specs.Words.{deviceOf};
+ghost use Rattle.device_words.specs.Words.{deviceOf, deviceLength};
 
 pub const BLOCK_SIZE: usize = 0;
 
@@ -18,24 +18,24 @@ pub const PLUGGED: usize = 5;
 
 pub const PINNED: usize = 21;
 
-pub const WORDS: usize = 37;
+pub const DEVICE_WORDS: usize = 37;
 
 pub fn block_size(device: &[u64]) -> u64
-    requires { ⌜ length (now device) ≡ 37 ⌝ }
+    requires { ⌜ length (now device) ≡ deviceLength ⌝ }
     ensures { λ r. ⌜ r ≡ deviceOf (now (device .entry)) .«block_size» ⌝ }
 {
     device[BLOCK_SIZE]
 }
 
 pub fn region_size(device: &[u64]) -> u64
-    requires { ⌜ length (now device) ≡ 37 ⌝ }
+    requires { ⌜ length (now device) ≡ deviceLength ⌝ }
     ensures { λ r. ⌜ r ≡ deviceOf (now (device .entry)) .«region_size» ⌝ }
 {
     device[REGION_SIZE]
 }
 
 pub fn plugged(device: &[u64]) -> &[u64]
-    requires { ⌜ length (now device) ≡ 37 ⌝ }
+    requires { ⌜ length (now device) ≡ deviceLength ⌝ }
     ensures { λ r. ⌜ now r ≡ deviceOf (now (device .entry)) .plugged ⌝ }
 {
     &device[PLUGGED..PINNED]

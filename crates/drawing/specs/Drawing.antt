@@ -14,7 +14,7 @@ use Rattle.region_map.specs.Flatten.{rootSize}
 use Rattle.map_records.specs.declared.map.RegionMap.{RegionMap}
 use Rattle.region_map.specs.declared.resolve.Resolved.{Resolved}
 use Rattle.region_map.specs.declared.resolve.Resolved.the-variants.{Nothing, At}
-use Rattle.sheet.specs.Sheet.{Outcome, readSheet}
+use Rattle.sheet.specs.Sheet.{SheetOutcome, readSheet}
 use Rattle.drawing.specs.Position.{located, Drawable}
 use Rattle.drawing.specs.declared.position.Position.{Position}
 use Rattle.drawing.specs.declared.position.Position.the-variants.{Aside, Outside, Inside}
@@ -146,15 +146,15 @@ unfoldable pub rowsText : RegionMap → ℕ → List ℕ
 rowsText m zero = []
 rowsText m (suc w) = rowsText m w ++ rowText m (rowAt (m .count) w)
 
-abbrev pub mapText : RegionMap → List ℕ
-mapText m = rowsText m (m .count + 3)
+abbrev pub mapDrawing : RegionMap → List ℕ
+mapDrawing m = rowsText m (m .count + 3)
 
 -- what `draw` prints for the sheet s over a memory of so many bytes: the drawing of its map, or `refused N`
-abbrev pub sheetText : Outcome → List ℕ
-sheetText o = ifAccepted (o .reply) refusedText (mapText (o .map))
+abbrev pub sheetDrawing : SheetOutcome → List ℕ
+sheetDrawing o = ifAccepted (o .reply) refusedText (mapDrawing (o .map))
 
 unfoldable pub drawingText : List ℕ → ℕ → List ℕ
-drawingText s memory = sheetText (readSheet s memory)
+drawingText s memory = sheetDrawing (readSheet s memory)
 
 -- What the functions that draw promise each other: words of an accepted map, and a row of its drawing.
 pub record DrawnRow (w : List ℕ) (memory : ℕ) (row : Row) : Type 0 where

@@ -2,13 +2,14 @@
 use mathlib.Core.Path.{_≡_}
 use mathlib.Core.Bool.{cond}
 use mathlib.Core.List.{List}
-use Prim.Native.Nat.{ℕ, zero, suc, _+_, _-_, _^_, _≤_, _<_, min}
+use Prim.Native.Nat.{ℕ, zero, suc, _+_, _-_, _≤_, _<_, min}
 use lib.Dec.{eqb, ltb}
 use lib.ListN.{length}
 use Rattle.map_records.specs.Map.{region}
 use Rattle.map_records.specs.Words.{mapOf}
 use Rattle.map_check.specs.Fault.{parentOf}
 use Rattle.region_map.specs.Flatten.{rootSize}
+use Rattle.map_records.specs.Limits.{limit, mostRegions, mapLength}
 use Rattle.map_records.specs.declared.map.Region.{Region}
 use Rattle.map_records.specs.declared.map.RegionMap.{RegionMap}
 use Rattle.drawing.specs.declared.position.Position.{Position}
@@ -37,17 +38,17 @@ climb m (suc k) n a b =
 
 -- 'a parent not above its child' is refused, so of 32 regions 32 are enough
 unfoldable pub located : RegionMap → ℕ → ℕ → ℕ → Position
-located m n a b = climb m 32 n a b
+located m n a b = climb m mostRegions n a b
 
 -- what drawing needs of a map; acceptance gives it
 pub record Climbable (m : RegionMap) : Type 0 where
   pub some : 0 < m .count
-  pub count : m .count ≤ 32
-  pub size : rootSize m ≤ 2 ^ 48
+  pub count : m .count ≤ mostRegions
+  pub size : rootSize m ≤ limit
   pub above : (n : ℕ) → n < m .count → (region m n .parent ≡ 0 → ⊥) → n < parentOf (region m n)
   pub below : (n : ℕ) → n < m .count → (region m n .parent ≡ 0 → ⊥) → parentOf (region m n) < m .count
 
 -- words of a map that can be drawn
 pub record Drawable (w : List ℕ) : Type 0 where
-  pub words : length w ≡ 289
+  pub words : length w ≡ mapLength
   pub climbable : Climbable (mapOf w)

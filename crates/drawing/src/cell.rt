@@ -8,6 +8,7 @@ ghost use Rattle.map_check.specs.Check.{Accepted};
 ghost use Rattle.drawing.specs.Position.{located, Drawable};
 ghost use Rattle.drawing.specs.Drawing.{columnAddress, addressCell, rulerCell, fill as fillOf};
 ghost use Rattle.drawing.specs.Drawing.{laterCell, regionCell, answerCell, cell as cellOf, DrawnRow};
+ghost use Rattle.map_records.specs.Limits.{mapLength, limit, mostRegions};
 use crate::label::digit;
 use crate::label::letter;
 use crate::position::Position;
@@ -24,7 +25,7 @@ use region_map::resolve::resolve_address;
 
 // The guest address that column c stands for in a root of so many bytes.
 fn column_address(size: u64, c: usize) -> GuestAddress
-    requires { ⌜ (size ≤ 2 ^ 48) × (c ≤ 64) ⌝ }
+    requires { ⌜ (size ≤ limit) × (c ≤ 64) ⌝ }
     ensures { λ r. ⌜ r .0 ≡ columnAddress size c ⌝ }
 {
     GuestAddress(size * (c as u64) / 64)
@@ -32,7 +33,7 @@ fn column_address(size: u64, c: usize) -> GuestAddress
 
 // The address line has an address at every sixteenth column.
 fn address_cell(size: u64, c: usize) -> u8
-    requires { ⌜ (size ≤ 2 ^ 48) × (c < 64) ⌝ }
+    requires { ⌜ (size ≤ limit) × (c < 64) ⌝ }
     ensures { λ r. ⌜ r ≡ addressCell size c ⌝ }
 {
     let address = column_address(size, c / 16 * 16);
@@ -52,7 +53,7 @@ fn ruler_cell(c: usize) -> u8
 
 // What a region's row is filled with.
 fn fill(map: &[u64], n: usize) -> u8
-    requires { ⌜ (length (now map) ≡ 289) × (n < 32) ⌝ }
+    requires { ⌜ (length (now map) ≡ mapLength) × (n < mostRegions) ⌝ }
     ensures { λ r. ⌜ r ≡ fillOf (mapOf (now (map .entry))) n ⌝ }
 {
     let region = region_at(map, n);
@@ -79,7 +80,7 @@ fn later_cell(map: &[u64], n: usize, first: GuestAddress, next: GuestAddress) ->
 }
 
 fn region_cell(map: &[u64], n: usize, first: GuestAddress, next: GuestAddress, c: usize) -> u8
-    requires { ⌜ Drawable (now map) × (n < mapOf (now map) .count) × (first .0 ≤ 2 ^ 48) ⌝ }
+    requires { ⌜ Drawable (now map) × (n < mapOf (now map) .count) × (first .0 ≤ limit) ⌝ }
     ensures { λ r. ⌜ r ≡ regionCell (mapOf (now (map .entry))) n (first .0) (next .0) c ⌝ }
 {
     let own = locate(map, n, first, GuestAddress(first.0 + 1));

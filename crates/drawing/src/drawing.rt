@@ -6,13 +6,14 @@ ghost use lib.Seq.{sets};
 ghost use Rattle.listing.specs.Text.{Puts, Fills};
 ghost use Rattle.map_records.specs.Words.{mapOf};
 ghost use Rattle.map_check.specs.Check.{Accepted};
-ghost use Rattle.drawing.specs.Drawing.{character as characterOf, rowText, mapText, drawingText, DrawnRow};
+ghost use Rattle.drawing.specs.Drawing.{character as characterOf, rowText, mapDrawing, drawingText, DrawnRow};
 use crate::cell::cell;
 use crate::label::label;
 use crate::row::Row;
 use crate::row::row_at;
 use listing::listing::fill;
 use listing::listing::refuse;
+use map_records::words::MAP_WORDS;
 use map_records::words::region_count;
 use sheet::answer;
 use sheet::reading::read_sheet;
@@ -47,7 +48,7 @@ fn put_row(map: &[u64], memory_length: u64, row: Row, text: &mut [u8], at: usize
 // All rows of an accepted map: at most 35 of 79 characters.
 fn put_rows(map: &[u64], memory_length: u64, text: &mut [u8]) -> usize
     requires { ⌜ Accepted (mapOf (now map)) «memory_length» × (length (now text) ≡ 2765) ⌝ }
-    ensures { λ r. ⌜ Puts (mapText (mapOf (now (map .entry)))) (now (text .entry)) 0 r (now (text .exit)) ⌝ }
+    ensures { λ r. ⌜ Puts (mapDrawing (mapOf (now (map .entry)))) (now (text .entry)) 0 r (now (text .exit)) ⌝ }
     ensures { λ r. ⌜ r ≤ 2765 ⌝ }
 {
     let count = region_count(map);
@@ -65,7 +66,7 @@ pub fn draw_sheet(sheet: &[u8], memory_length: u64, out: &mut [u8]) -> usize
     ensures { λ r. ⌜ Fills (drawingText (now (sheet .entry)) «memory_length») (now (out .entry)) r (now (out .exit)) ⌝ }
     ensures { λ r. ⌜ r ≤ 2765 ⌝ }
 {
-    let mut map = [0u64; 289];
+    let mut map = [0u64; MAP_WORDS];
     let answer = read_sheet(sheet, memory_length, &mut map);
     let refused = answer::number_of(answer);
     if refused != 0 {

@@ -5,6 +5,7 @@ ghost use lib.ListN.{length};
 ghost use Rattle.map_records.specs.Words.{mapOf};
 ghost use Rattle.drawing.specs.Position.{Drawable};
 ghost use Rattle.drawing.specs.Drawing.{digitOf, letterOf, kindText, regionLabel, label as labelOf, RowIn};
+ghost use Rattle.map_records.specs.Limits.{mapLength, mostRegions};
 use crate::row::Row;
 use map_records::map::ALIAS;
 use map_records::map::CONTAINER;
@@ -56,7 +57,7 @@ fn kind_letter(kind: u64, i: usize) -> u8
 
 // Character k of the label of region n: its number, then its kind.
 fn region_label(map: &[u64], n: usize, k: usize) -> u8
-    requires { ⌜ (length (now map) ≡ 289) × (n < 32) ⌝ }
+    requires { ⌜ (length (now map) ≡ mapLength) × (n < mostRegions) ⌝ }
     ensures { λ r. ⌜ r ≡ regionLabel (mapOf (now (map .entry))) n k ⌝ }
 {
     if k == 1 {

@@ -9,7 +9,7 @@ use lib.Dec.{eqb, leb}
 use lib.ListN.{length, getD, length-take}
 use lib.Seq.{getD-take}
 use borrow.Author.Tests.{leb-true}
-use Rattle.map_records.specs.Map.{ram, managed}
+use Rattle.map_records.specs.Map.{ram, managed, hasMemory}
 use Rattle.region_map.specs.FlatList.{inside}
 use Rattle.map_records.specs.View.{entries, noRange}
 use Rattle.map_records.specs.View.{rangeOf}
@@ -18,10 +18,10 @@ use Rattle.map_records.specs.declared.view.FlatView.{FlatView}
 use Rattle.map_check.proofs.Bools.{never, and-fst, and-snd}
 use Rattle.device_words.specs.Device.{pluggedIn}
 use Rattle.guest_view.specs.Guest.{Leaf, nowhere, leaf, leafIn, leafAt, reachLeaf, placeLeaf, viewGuest, allReach}
-use Rattle.guest_view.specs.Contracts.{memoryKind, memoryLeaf, Ordered, Backed, InMemory, placeIn}
+use Rattle.guest_view.specs.Contracts.{memoryLeaf, Ordered, Backed, InMemory, placeIn}
 
 -- what is reachable lies in the memory
-kind-memory : (kind : ℕ) (p : Bool) → (eqb kind ram || (eqb kind managed && p)) ≡ true → memoryKind kind ≡ true
+kind-memory : (kind : ℕ) (p : Bool) → (eqb kind ram || (eqb kind managed && p)) ≡ true → hasMemory kind ≡ true
 kind-memory kind p h = go (eqb kind ram) (eqb kind managed) h
   where
     go : (x y : Bool) → (x || (y && p)) ≡ true → (x || y) ≡ true
@@ -97,7 +97,7 @@ module _ (v : FlatView) (a : ℕ) (h : memoryLeaf (leafAt (entries v) a) ≡ tru
   holder-gives : leafAt (entries v) a ≡ leafIn (rangeOf v (holder .at)) a
   holder-gives = holder .gives ∙ ap (λ (r : FlatRange). leafIn r a) holder-is
 
-  holder-kind : memoryKind (rangeOf v (holder .at) .kind) ≡ true
+  holder-kind : hasMemory (rangeOf v (holder .at) .kind) ≡ true
   holder-kind = sym (ap memoryLeaf holder-gives) ∙ h
 
   pub memory-low : Ordered v → a < 2 ^ 48

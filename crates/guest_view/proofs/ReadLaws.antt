@@ -7,7 +7,7 @@ use Prim.Native.Nat.{ℕ, _+_, _-_, _^_, _≤_, _<_}
 use native.Mathlib.Nat.{add-zero}
 use native.Mathlib.Omega.{arith}
 use lib.ListN.{length}
-use Rattle.map_records.specs.Map.{mmio}
+use Rattle.map_records.specs.Map.{mmio, hasMemory}
 use Rattle.map_records.specs.View.{entries}
 use Rattle.map_records.specs.View.{rangeOf}
 use Rattle.map_records.specs.declared.view.FlatRange.{FlatRange}
@@ -17,7 +17,7 @@ use Rattle.map_records.proofs.Order.{side}
 use Rattle.guest_view.specs.Guest.{leafAt, placeLeaf, placeOf}
 use Rattle.map_records.specs.View.{offsetIn}
 use Rattle.map_records.specs.Words.{viewOf}
-use Rattle.guest_view.specs.Contracts.{memoryKind, memoryLeaf, Judged, InMemory, Spot, Runs, placeIn}
+use Rattle.guest_view.specs.Contracts.{memoryLeaf, Judged, InMemory, Spot, Runs, placeIn}
 use Rattle.guest_view.proofs.FindLaws.{at-range}
 use Rattle.map_records.proofs.WordLaws.{full-words}
 
@@ -55,7 +55,7 @@ module _ {words : List ℕ} (j : Judged words) {a at : ℕ} (s : Spot (viewOf wo
         subst (λ (r : FlatRange). offsetIn r a + (r .last .0 - a) < 2 ^ 48) (sym e) (omega (arith, j .ordered .offset at h, s .low h, s .high h))
 
     -- the memory place
-    place-fits : memoryKind (rangeOf (viewOf words) at .kind) ≡ true → placeOf (x .base) (offsetIn x a) < 2 ^ 64
+    place-fits : hasMemory (rangeOf (viewOf words) at .kind) ≡ true → placeOf (x .base) (offsetIn x a) < 2 ^ 64
     place-fits k =
         subst (λ (r : FlatRange). placeOf (r .base) (offsetIn r a) < 2 ^ 64) (sym e) (omega (arith, j .ordered .place at h k, s .low h, s .high h))
 

@@ -11,17 +11,17 @@ use lib.Dec.{eqb, leb, ltb}
 use lib.ListN.{length, getD, set, replicate, getD-replicate}
 use lib.Seq.{getD-set-same, getD-set-other}
 use borrow.Author.Tests.{lt-ltb, le-ltb, le-leb, lt-leb, eq-eqb, ne-eqb, leb-true, ltb-true, eqb-true}
-use Rattle.map_records.specs.Map.{ram, mmio, managed}
-use Rattle.map_check.specs.Fault.{limit}
+use Rattle.map_records.specs.Map.{ram, mmio, managed, hasMemory}
+use Rattle.map_records.specs.Limits.{limit, mostRegions}
 use Rattle.map_records.specs.View.{rangeOf, lastOffset}
 use Rattle.map_records.specs.declared.view.FlatRange.{FlatRange}
 use Rattle.map_records.specs.declared.view.FlatView.{FlatView}
-use Rattle.map_check.proofs.Bools.{never, and-fst, and-snd, and-off}
+use Rattle.map_check.proofs.Bools.{never, or-left, or-right, and-fst, and-snd, and-off}
 use Rattle.device_words.specs.Table.{allBelow}
 use Rattle.device_words.proofs.TableLaws.{all-true, all-of, all-not}
 use Rattle.map_records.proofs.Order.{side, eq-or-not}
 use Rattle.guest_view.specs.View.{orderOk, lastOk, numberOk, kindOk, memoryOk, managedOk, rangeOk, agree, pairOk, entryOk, viewOk}
-use Rattle.guest_view.specs.Contracts.{memoryKind, Ordered, Backed, Owner, Owners}
+use Rattle.guest_view.specs.Contracts.{Ordered, Backed, Owner, Owners}
 
 -- ---- tests
 
@@ -29,14 +29,9 @@ or-off : (a b : Bool) → (a || b) ≡ true → a ≡ false → b ≡ true
 or-off true b e f = absurd (never f)
 or-off false b e f = e
 
-without : (a b c : Bool) → (a || b || c) ≡ true → b ≡ false → (a || c) ≡ true
-without true b c e f = refl
-without false true c e f = absurd (never f)
-without false false c e f = e
-
--- a memory range is none of a port
-pub memory-no-port : (k : ℕ) → memoryKind k ≡ true → eqb k mmio ≡ false
-memory-no-port k h = ne-eqb k mmio (λ e. never (sym h ∙ ap memoryKind e))
+or-first : (a b : Bool) → (a || b) ≡ true → b ≡ false → a ≡ true
+or-first true b e f = refl
+or-first false b e f = absurd (never (sym e ∙ f))
 
 -- ---- one range
 
@@ -44,7 +39,7 @@ pub record RangeFacts (memory region : ℕ) (r : FlatRange) : Type 0 where
   pub order : r .first .0 ≤ r .last .0
   pub last : r .last .0 < 2 ^ 48
   pub offset : lastOffset r < 2 ^ 48
-  pub number : r .region ≤ 31
+  pub known : r .region < mostRegions
   pub kind : kindOk r ≡ true
   pub room : memoryOk memory r ≡ true
   pub inside : managedOk region r ≡ true
@@ -61,7 +56,7 @@ range-facts memory region r h =
       order = leb-true (r .first .0) (r .last .0) (and-fst (orderOk r) (lastOk r && (numberOk r && (kindOk r && (memoryOk memory r && managedOk region r)))) h);
       last = ltb-true (r .last .0) limit (and-fst (ltb (r .last .0) limit) (ltb (lastOffset r) limit) l);
       offset = ltb-true (lastOffset r) limit (and-snd (ltb (r .last .0) limit) (ltb (lastOffset r) limit) l);
-      number = leb-true (r .region) 31 (and-fst (numberOk r) (kindOk r && (memoryOk memory r && managedOk region r)) h2);
+      known = ltb-true (r .region) mostRegions (and-fst (numberOk r) (kindOk r && (memoryOk memory r && managedOk region r)) h2);
       kind = and-fst (kindOk r) (memoryOk memory r && managedOk region r) h3;
       room = and-fst (memoryOk memory r) (managedOk region r) h4;
       inside = and-snd (memoryOk memory r) (managedOk region r) h4;
@@ -70,7 +65,7 @@ range-facts memory region r h =
 pub range-of : (memory region : ℕ) (r : FlatRange) → RangeFacts memory region r → rangeOk memory region r ≡ true
 unfolding rangeOk
 range-of memory region r f =
-    rw (le-leb (r .first .0) (r .last .0) (f .order), lt-ltb (r .last .0) limit (f .last), lt-ltb (lastOffset r) limit (f .offset), le-leb (r .region) 31 (f .number), f .kind, f .room, f .inside)
+    rw (le-leb (r .first .0) (r .last .0) (f .order), lt-ltb (r .last .0) limit (f .last), lt-ltb (lastOffset r) limit (f .offset), lt-ltb (r .region) mostRegions (f .known), f .kind, f .room, f .inside)
 
 -- ---- where a range's bytes lie, by its kind
 
@@ -81,26 +76,30 @@ and-on false = refl
 module _ (r : FlatRange) (memory region : ℕ) where
   -- as a function of the kind
   abbrev backs : ℕ → Bool
-  backs k = (eqb k ram || eqb k mmio || eqb k managed) && ((eqb k mmio || ltb (r .base + lastOffset r) memory) && (not (eqb k managed) || ltb (lastOffset r) region))
+  backs k = (hasMemory k || eqb k mmio) && ((not (hasMemory k) || ltb (r .base + lastOffset r) memory) && (not (eqb k managed) || ltb (lastOffset r) region))
 
-  pub backing-port : r .kind ≡ mmio → (kindOk r && (memoryOk memory r && managedOk region r)) ≡ true
-  backing-port e = ap backs e
-
-  pub backing-other : (r .kind ≡ mmio → ⊥) → (r .kind ≡ ram → ⊥) → (r .kind ≡ managed → ⊥) → (kindOk r && (memoryOk memory r && managedOk region r)) ≡ false
-  backing-other p q s = rw (ne-eqb (r .kind) ram q, ne-eqb (r .kind) mmio p, ne-eqb (r .kind) managed s)
+  pub backing-none : hasMemory (r .kind) ≡ false → (kindOk r && (memoryOk memory r && managedOk region r)) ≡ eqb (r .kind) mmio
+  backing-none e =
+      let no-ram = or-left (eqb (r .kind) ram) (eqb (r .kind) managed) e in
+      rw (no-ram, or-right (eqb (r .kind) ram) (eqb (r .kind) managed) e) (and-on (eqb (r .kind) mmio))
 
   pub backing-past : r .kind ≡ managed → region ≤ lastOffset r → (kindOk r && (memoryOk memory r && managedOk region r)) ≡ false
   backing-past e h = ap backs e ∙ rw (le-ltb (lastOffset r) region h) (and-off (ltb (r .base + lastOffset r) memory))
 
-  pub backing-ram : r .kind ≡ ram → (kindOk r && (memoryOk memory r && managedOk region r)) ≡ ltb (r .base + lastOffset r) memory
-  backing-ram e = ap backs e ∙ and-on (ltb (r .base + lastOffset r) memory)
+  pub backing-here : hasMemory (r .kind) ≡ true → managedOk region r ≡ true → (kindOk r && (memoryOk memory r && managedOk region r)) ≡ ltb (r .base + lastOffset r) memory
+  backing-here e h =
+      subst (λ (k : Bool). ((k || eqb (r .kind) mmio) && ((not k || ltb (r .base + lastOffset r) memory) && managedOk region r)) ≡ ltb (r .base + lastOffset r) memory)
+      (sym e) (rw h (and-on (ltb (r .base + lastOffset r) memory)))
 
-  pub backing-managed : r .kind ≡ managed → lastOffset r < region → (kindOk r && (memoryOk memory r && managedOk region r)) ≡ ltb (r .base + lastOffset r) memory
-  backing-managed e h = ap backs e ∙ rw (lt-ltb (lastOffset r) region h) (and-on (ltb (r .base + lastOffset r) memory))
+  pub in-region : r .kind ≡ managed → lastOffset r < region → managedOk region r ≡ true
+  in-region e h = rw (eq-eqb (r .kind) managed e) (lt-ltb (lastOffset r) region h)
 
-pub range-room : (memory region : ℕ) (r : FlatRange) → RangeFacts memory region r → memoryKind (r .kind) ≡ true → r .base + lastOffset r < memory
+  pub no-region : (r .kind ≡ managed → ⊥) → managedOk region r ≡ true
+  no-region n = rw (ne-eqb (r .kind) managed n)
+
+pub range-room : (memory region : ℕ) (r : FlatRange) → RangeFacts memory region r → hasMemory (r .kind) ≡ true → r .base + lastOffset r < memory
 range-room memory region r f h =
-    ltb-true (r .base + lastOffset r) memory (or-off (eqb (r .kind) mmio) (ltb (r .base + lastOffset r) memory) (f .room) (memory-no-port (r .kind) h))
+    ltb-true (r .base + lastOffset r) memory (or-off (not (hasMemory (r .kind))) (ltb (r .base + lastOffset r) memory) (f .room) (ap not h))
 
 -- ---- two ranges
 
@@ -170,11 +169,11 @@ module _ (v : FlatView) (memory region : ℕ) where
         (λ lt. sym (agree-kind (rangeOf v k) (rangeOf v j) (entry-agree k j (view-entry j p) lt) (sym e))) (eq-or-lt-of-le ge))
         (side j k)
 
-    view-kind : (k : ℕ) → k < v .count → (rangeOf v k .kind ≡ mmio → ⊥) → memoryKind (rangeOf v k .kind) ≡ true
+    view-kind : (k : ℕ) → k < v .count → (rangeOf v k .kind ≡ mmio → ⊥) → hasMemory (rangeOf v k .kind) ≡ true
     view-kind k h ne =
-        without (eqb (rangeOf v k .kind) ram) (eqb (rangeOf v k .kind) mmio) (eqb (rangeOf v k .kind) managed) (view-range k h .kind) (ne-eqb (rangeOf v k .kind) mmio ne)
+        or-first (hasMemory (rangeOf v k .kind)) (eqb (rangeOf v k .kind) mmio) (view-range k h .kind) (ne-eqb (rangeOf v k .kind) mmio ne)
 
-    view-room : (k : ℕ) → k < v .count → memoryKind (rangeOf v k .kind) ≡ true → rangeOf v k .base + lastOffset (rangeOf v k) < memory
+    view-room : (k : ℕ) → k < v .count → hasMemory (rangeOf v k .kind) ≡ true → rangeOf v k .base + lastOffset (rangeOf v k) < memory
     view-room k h = range-room memory region (rangeOf v k) (view-range k h)
 
     pub view-backed : Backed v memory

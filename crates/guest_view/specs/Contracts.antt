@@ -5,8 +5,10 @@ use mathlib.Core.List.{List, map}
 use Prim.Native.Nat.{ℕ, _+_, _-_, _^_, _≤_, _<_}
 use lib.Dec.{eqb}
 use lib.ListN.{length, getD}
-use Rattle.map_records.specs.Map.{ram, mmio, managed}
+use Rattle.map_records.specs.Map.{ram, mmio, managed, hasMemory}
 use Rattle.map_records.specs.View.{entries, rangeOf, lastOffset}
+use Rattle.map_records.specs.Limits.{limit, mostRegions, mostRanges, viewLength}
+use Rattle.device_words.specs.Table.{tableLength}
 use Rattle.map_records.specs.declared.view.FlatView.{FlatView}
 use Rattle.guest_view.specs.Guest.{Leaf, nowhere, leaf, leafIn, leafAt, reachKind, placeLeaf, viewGuest, addresses, byteAt, numberAt}
 use Rattle.guest_view.specs.View.{agree}
@@ -14,33 +16,29 @@ use Rattle.map_records.specs.Words.{viewOf}
 use Rattle.guest_view.specs.declared.reach.Extent.{Extent}
 use Rattle.guest_view.specs.declared.reach.Extent.the-variants.{Go, Stop}
 
--- kinds whose bytes lie in the memory
-abbrev pub memoryKind : ℕ → Bool
-memoryKind k = eqb k ram || eqb k managed
-
 abbrev pub memoryLeaf : Leaf → Bool
 memoryLeaf nowhere = false
-memoryLeaf (leaf n kind base o) = memoryKind kind
+memoryLeaf (leaf n kind base o) = hasMemory kind
 
 -- a view that ascends without overlap, with no empty range and no sum that wraps
 pub record Ordered (v : FlatView) : Type 0 where
-  pub few : v .count ≤ 256
+  pub few : v .count ≤ mostRanges
   pub order : (k : ℕ) → k < v .count → rangeOf v k .first .0 ≤ rangeOf v k .last .0
   pub apart : (j k : ℕ) → j < k → k < v .count → rangeOf v j .last .0 < rangeOf v k .first .0
-  pub last : (k : ℕ) → k < v .count → rangeOf v k .last .0 < 2 ^ 48
-  pub offset : (k : ℕ) → k < v .count → lastOffset (rangeOf v k) < 2 ^ 48
-  pub place : (k : ℕ) → k < v .count → memoryKind (rangeOf v k .kind) ≡ true → rangeOf v k .base + lastOffset (rangeOf v k) < 2 ^ 64
-  pub kind : (k : ℕ) → k < v .count → (rangeOf v k .kind ≡ mmio → ⊥) → memoryKind (rangeOf v k .kind) ≡ true
+  pub last : (k : ℕ) → k < v .count → rangeOf v k .last .0 < limit
+  pub offset : (k : ℕ) → k < v .count → lastOffset (rangeOf v k) < limit
+  pub place : (k : ℕ) → k < v .count → hasMemory (rangeOf v k .kind) ≡ true → rangeOf v k .base + lastOffset (rangeOf v k) < 2 ^ 64
+  pub kind : (k : ℕ) → k < v .count → (rangeOf v k .kind ≡ mmio → ⊥) → hasMemory (rangeOf v k .kind) ≡ true
   pub kinds : (j k : ℕ) → j < v .count → k < v .count → rangeOf v j .region ≡ rangeOf v k .region → rangeOf v j .kind ≡ rangeOf v k .kind
 
 -- the words of such a view
 pub record Judged (w : List ℕ) : Type 0 where
-  pub words : length w ≡ 1537
+  pub words : length w ≡ viewLength
   pub ordered : Ordered (viewOf w)
 
 -- each range of such a kind lies in a memory of this length
 pub record Backed (v : FlatView) (memory : ℕ) : Type 0 where
-  pub room : (k : ℕ) → k < v .count → memoryKind (rangeOf v k .kind) ≡ true → rangeOf v k .base + lastOffset (rangeOf v k) < memory
+  pub room : (k : ℕ) → k < v .count → hasMemory (rangeOf v k .kind) ≡ true → rangeOf v k .base + lastOffset (rangeOf v k) < memory
 
 -- what a search for an address gives: the number of the range that holds it, or the count
 pub record Spot (v : FlatView) (a r : ℕ) : Type 0 where
@@ -73,7 +71,7 @@ pub record Runs (v : FlatView) (a place left : ℕ) : Type 0 where
 
 -- a block size and a plug table that can be asked, and the addresses that they and a view's words make reachable
 abbrev pub Table : ℕ → List ℕ → Type 0
-Table block plugged = (0 < block) × (length plugged ≡ 16)
+Table block plugged = (0 < block) × (length plugged ≡ tableLength)
 
 abbrev pub reachIn : List ℕ → ℕ → List ℕ → ℕ → Bool
 reachIn view block plugged = viewGuest (viewOf view) block plugged .reach
@@ -96,7 +94,7 @@ pub record Owner (v : FlatView) (k n first : ℕ) : Type 0 where
   pub values : 0 < first → (j : ℕ) → j < k → agree (rangeOf v j) (rangeOf v (first - 1)) ≡ true
 
 pub record Owners (v : FlatView) (k : ℕ) (owner : List ℕ) : Type 0 where
-  pub each : (n : ℕ) → n < 32 → Owner v k n (getD owner n 0)
+  pub each : (n : ℕ) → n < mostRegions → Owner v k n (getD owner n 0)
 
 -- the ranges before k ascend, and none is empty
 pub record Ascends (v : FlatView) (k : ℕ) : Type 0 where

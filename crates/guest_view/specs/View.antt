@@ -2,8 +2,8 @@
 use mathlib.Core.Bool.{Bool, _&&_, _||_, not}
 use Prim.Native.Nat.{ℕ, _+_}
 use lib.Dec.{eqb, leb, ltb}
-use Rattle.map_records.specs.Map.{ram, mmio, managed}
-use Rattle.map_check.specs.Fault.{limit}
+use Rattle.map_records.specs.Map.{mmio, managed, hasMemory}
+use Rattle.map_records.specs.Limits.{limit, mostRegions, mostRanges}
 use Rattle.map_records.specs.View.{rangeOf, lastOffset}
 use Rattle.map_records.specs.declared.view.FlatRange.{FlatRange}
 use Rattle.map_records.specs.declared.view.FlatView.{FlatView}
@@ -19,15 +19,15 @@ lastOk r = ltb (r .last .0) limit && ltb (lastOffset r) limit
 
 -- 'a node over 31'
 abbrev pub numberOk : FlatRange → Bool
-numberOk r = leb (r .region) 31
+numberOk r = ltb (r .region) mostRegions
 
 -- 'a kind not 1, 2 or 4'
 abbrev pub kindOk : FlatRange → Bool
-kindOk r = eqb (r .kind) ram || eqb (r .kind) mmio || eqb (r .kind) managed
+kindOk r = hasMemory (r .kind) || eqb (r .kind) mmio
 
 -- 'a memory range past the lent memory'
 abbrev pub memoryOk : ℕ → FlatRange → Bool
-memoryOk memory r = eqb (r .kind) mmio || ltb (r .base + lastOffset r) memory
+memoryOk memory r = not (hasMemory (r .kind)) || ltb (r .base + lastOffset r) memory
 
 -- 'a managed part past the region'
 abbrev pub managedOk : ℕ → FlatRange → Bool
@@ -54,7 +54,7 @@ entryOk v memory region k = rangeOk memory region (rangeOf v k) && pairsOk v k
 
 -- 27 for runs, over a lent memory and a managed region of these lengths: 'over 256', and every entry
 unfoldable pub viewOk : FlatView → ℕ → ℕ → Bool
-viewOk v memory region = leb (v .count) 256 && allBelow (entryOk v memory region) (v .count)
+viewOk v memory region = leb (v .count) mostRanges && allBelow (entryOk v memory region) (v .count)
 
 -- 'Given no device .. 27 judges no region': every offset is below 2^48 anyway
 abbrev pub noRegionBound : ℕ

@@ -5,9 +5,11 @@ ghost use Prim.Native.Nat.{ℕ, _+_, _≤_, _<_};
 ghost use Rattle.device_words.specs.Device.{pluggedIn};
 ghost use Rattle.guest_view.specs.Guest.{allReach};
 ghost use Rattle.guest_view.specs.Contracts.{Judged, Table, Extends, Reaches, reachIn};
+ghost use Rattle.map_records.specs.Limits.{limit};
 use crate::find::near;
 use crate::place::offset_in;
 use device_words::device::block_of;
+use device_words::table::BLOCKS;
 use device_words::table::all_set;
 use device_words::table::is_in;
 use map_records::map::GuestAddress;
@@ -31,7 +33,7 @@ pub fn is_plugged(block: u64, plugged: &[u64], offset: RegionOffset) -> bool
     requires { ⌜ Table block (now plugged) ⌝ }
     ensures { λ r. ⌜ r ≡ pluggedIn block (now (plugged .entry)) (offset .0) ⌝ }
 {
-    if offset.0 / block < 1024 {
+    if offset.0 / block < BLOCKS as u64 {
         let number = block_of(block, offset);
         return is_in(plugged, number.0 as usize);
     }
@@ -41,11 +43,11 @@ pub fn is_plugged(block: u64, plugged: &[u64], offset: RegionOffset) -> bool
 // Are the blocks of the bytes from an offset on plugged, up to `more` bytes after it?
 fn run_plugged(block: u64, plugged: &[u64], offset: RegionOffset, more: u64) -> bool
     requires { ⌜ Table block (now plugged) ⌝ }
-    requires { ⌜ offset .0 + more < 281474976710656 ⌝ }
+    requires { ⌜ offset .0 + more < limit ⌝ }
     ensures { λ r. ⌜ (r ≡ true → (e : ℕ) → e ≤ more → pluggedIn block (now (plugged .entry)) (offset .0 + e) ≡ true) ⌝ }
 {
     let end = RegionOffset(offset.0 + more);
-    if end.0 / block < 1024 {
+    if end.0 / block < BLOCKS as u64 {
         let first = block_of(block, offset);
         let last = block_of(block, end);
         let count = (last.0 - first.0) as usize + 1;
@@ -65,7 +67,7 @@ fn how_far(
     wanted: u64,
 ) -> Extent
     requires { ⌜ Table block (now plugged) ⌝ }
-    requires { ⌜ offset .0 + span < 281474976710656 ⌝ }
+    requires { ⌜ offset .0 + span < limit ⌝ }
     ensures { λ r. ⌜ Extends (pluggedIn block (now (plugged .entry))) kind (offset .0) span r ⌝ }
 {
     if kind == RAM {

@@ -7,29 +7,30 @@ ghost use Rattle.map_records.specs.View.{rangeOf, lastOffset};
 ghost use Rattle.map_records.specs.Words.{viewOf};
 ghost use Rattle.guest_view.specs.View.{kindOk, memoryOk, managedOk, rangeOk, pairsOk, viewOk};
 ghost use Rattle.guest_view.specs.Contracts.{Owner, Ascends};
+ghost use Rattle.map_records.specs.Limits.{viewLength, limit, mostRanges};
 use crate::place::offset_in;
 use map_records::map::MANAGED;
 use map_records::map::MMIO;
-use map_records::map::RAM;
+use map_records::map::REGIONS;
+use map_records::map::has_memory;
 use map_records::numbers::LIMIT;
 use map_records::numbers::sum_within;
 use map_records::view::FlatRange;
+use map_records::view::RANGES;
+use map_records::words::VIEW_WORDS;
 use map_records::words::count_of;
 use map_records::words::range_at;
 
 // The kind of a range, whose last offset is `there`, and where its bytes lie.
 fn backing_ok(range: FlatRange, there: u64, memory: u64, region: u64) -> bool
-    requires { ⌜ (there ≡ lastOffset range) × (there < 281474976710656) ⌝ }
+    requires { ⌜ (there ≡ lastOffset range) × (there < limit) ⌝ }
     ensures { λ r. ⌜ r ≡ (kindOk range && (memoryOk memory range && managedOk region range)) ⌝ }
 {
     let kind = range.kind;
-    if kind == MMIO {
-        return true;
+    if !has_memory(kind) {
+        return kind == MMIO;
     }
-    if kind != RAM {
-        if kind != MANAGED {
-            return false;
-        }
+    if kind == MANAGED {
         if region <= there {
             return false;
         }
@@ -54,7 +55,7 @@ fn range_ok(range: FlatRange, memory: u64, region: u64) -> bool
     if LIMIT <= there.0 {
         return false;
     }
-    if 31 < range.region {
+    if REGIONS <= range.region {
         return false;
     }
     backing_ok(range, there.0, memory, region)
@@ -63,8 +64,8 @@ fn range_ok(range: FlatRange, memory: u64, region: u64) -> bool
 // Range k with those before it, of which the last and the first of its region stand for all: `first` is 1 + that one's
 // number, or 0 where there is none.
 fn pairs_ok(view: &[u64], range: FlatRange, first: usize, k: usize) -> bool
-    requires { ⌜ length (now view) ≡ 1537 ⌝ }
-    requires { ⌜ (k < 256) × (range ≡ rangeOf (viewOf (now view)) k) ⌝ }
+    requires { ⌜ length (now view) ≡ viewLength ⌝ }
+    requires { ⌜ (k < mostRanges) × (range ≡ rangeOf (viewOf (now view)) k) ⌝ }
     requires { ⌜ Owner (viewOf (now view)) k (range .region) first × Ascends (viewOf (now view)) k ⌝ }
     ensures { λ r. ⌜ r ≡ pairsOk (viewOf (now (view .entry))) k ⌝ }
 {
@@ -86,14 +87,14 @@ fn pairs_ok(view: &[u64], range: FlatRange, first: usize, k: usize) -> bool
 pub fn view_ok(view: &[u64], memory: u64, region: u64) -> bool
     ensures { λ r. ⌜ r ≡ viewOk (viewOf (now (view .entry))) memory region ⌝ }
 {
-    if view.len() != 1537 {
+    if view.len() != VIEW_WORDS {
         return false;
     }
     let count = count_of(view);
-    if 256 < count {
+    if RANGES < count {
         return false;
     }
-    let mut owner = [0usize; 32];
+    let mut owner = [0usize; REGIONS];
     let mut k: usize = 0;
     while k < count {
         let range = range_at(view, k);

@@ -11,13 +11,14 @@ use lib.Seq.{take-suc}
 use borrow.Author.Tests.{eq-eqb, ltb-false}
 use Rattle.map_records.specs.View.{noRange, rangeOf, entries}
 use Rattle.map_records.specs.Words.{viewOf, viewWords}
+use Rattle.map_records.specs.Limits.{viewLength}
 use Rattle.map_records.specs.declared.view.FlatRange.{FlatRange}
 use Rattle.map_records.specs.declared.view.FlatView.{FlatView}
 use Rattle.map_records.specs.declared.map.RegionMap.{RegionMap}
 use Rattle.map_records.proofs.WordLaws.{view-back, view-words-injective}
-use Rattle.map_check.specs.Reply.{Reply, accepted, nodes, place, plain, passes, numberOf, ifAccepted}
+use Rattle.map_check.specs.Reply.{Reply, accepted, nodes, place, plain, passes, numberOf, ifAccepted, Laid}
 use Rattle.map_check.specs.Check.{judged}
-use Rattle.region_map.specs.Flatten.{flatReply, flatList, viewHolding, refusal, listed, Outcome, flattened, Made, laidInto, flattenedInto}
+use Rattle.region_map.specs.Flatten.{flatReply, flatList, viewHolding, flatRefusal, listed, FlatOutcome, flattened, viewLaid, flattenedInto}
 use Rattle.region_map.specs.declared.view.FlatAnswer.{FlatAnswer}
 use Rattle.region_map.specs.declared.view.FlatAnswer.the-variants.{Checked, TooMany, Record}
 use Rattle.sheet.proofs.ReadLaws.{Said, said}
@@ -50,7 +51,7 @@ flat-zero (Checked a) = map-zero a
 flat-zero TooMany = refl
 flat-zero Record = refl
 
-pub record MadeAs (o : Outcome) (n : ℕ) (words : List ℕ) : Type 0 where
+pub record MadeAs (o : FlatOutcome) (n : ℕ) (words : List ℕ) : Type 0 where
   pub said : Said (o .reply) n
   pub view : n ≡ 0 → viewOf words ≡ o .view
   pub few : n ≡ 0 → viewOf words .count ≤ 256
@@ -61,26 +62,26 @@ unfolding flattened listed viewHolding
 few-ranges m memory = go (judged m memory) (ltb 256 (length (flatList m))) refl
   where
     go : (j : Reply) (t : Bool) → ltb 256 (length (flatList m)) ≡ t
-        → ifAccepted j refusal (cond t (refusal (plain 12)) (record { reply = accepted; view = viewHolding (flatList m) })) .view .count ≤ 256
+        → ifAccepted j flatRefusal (cond t (flatRefusal (plain 12)) (record { reply = accepted; view = viewHolding (flatList m) })) .view .count ≤ 256
     go accepted true e = omega arith
     go accepted false e = ltb-false 256 (length (flatList m)) e
     go (nodes k i l) t e = omega arith
     go (place k p) t e = omega arith
     go (plain k) t e = omega arith
 
-module _ (m : RegionMap) (memory : ℕ) (old words : List ℕ) (a : FlatAnswer) (n : ℕ) (size : length old ≡ 1537) (long : length words ≡ 1537)
+module _ (m : RegionMap) (memory : ℕ) (old words : List ℕ) (a : FlatAnswer) (n : ℕ) (size : length old ≡ viewLength) (long : length words ≡ viewLength)
     (e : flatReply a ≡ flattenedInto m memory old .reply) (w : words ≡ flattenedInto m memory old .words) (k : n ≡ numberOf (flatReply a)) where
-  into-words : flattenedInto m memory old ≡ laidInto (flattened m memory) old
+  into-words : flattenedInto m memory old ≡ viewLaid (flattened m memory) old
   unfolding flattenedInto
-  into-words = rw (eq-eqb (length old) 1537 size)
+  into-words = rw (eq-eqb (length old) viewLength size)
 
   answered : Said (flattened m memory .reply) n
-  answered = said (flat-zero a) (e ∙ ap (λ (x : Made). x .reply) into-words) k
+  answered = said (flat-zero a) (e ∙ ap (λ (x : Laid). x .reply) into-words) k
 
   made : n ≡ 0 → viewOf words ≡ flattened m memory .view
   made z =
       view-words-injective (viewOf words) (flattened m memory .view)
-      (view-back words long ∙ w ∙ ap (λ (x : Made). x .words) into-words ∙ ap (λ (b : Bool). cond b (viewWords (flattened m memory .view)) old) (answered .passed z))
+      (view-back words long ∙ w ∙ ap (λ (x : Laid). x .words) into-words ∙ ap (λ (b : Bool). cond b (viewWords (flattened m memory .view)) old) (answered .passed z))
 
   pub made-as : MadeAs (flattened m memory) n words
   made-as =
@@ -91,7 +92,7 @@ module _ (m : RegionMap) (memory : ℕ) (old words : List ℕ) (a : FlatAnswer) 
       }
 
 -- the text of a view that was made
-module _ {o : Outcome} {n : ℕ} {words : List ℕ} (told : MadeAs o n words) {old new : List ℕ} {k : ℕ} where
+module _ {o : FlatOutcome} {n : ℕ} {words : List ℕ} (told : MadeAs o n words) {old new : List ℕ} {k : ℕ} where
   pub view-refused : (n ≡ 0 → ⊥) → Fills (refusalText n) old k new → Fills (viewText o) old k new
   view-refused h f = fills-refused (told .said) (rangesText (entries (o .view))) h f
 

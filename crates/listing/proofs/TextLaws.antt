@@ -17,7 +17,7 @@ use Rattle.map_check.proofs.Accepted.{passed-reply}
 use Rattle.map_check.proofs.Replies.{refused-first}
 use Rattle.map_records.specs.Words.{mapOf}
 use Rattle.map_records.specs.declared.map.RegionMap.{RegionMap}
-use Rattle.sheet.specs.Sheet.{Outcome}
+use Rattle.sheet.specs.Sheet.{SheetOutcome}
 use Rattle.sheet.proofs.ReadLaws.{Said, ReadAs}
 use Rattle.listing.specs.Text.{places, hexText, decimalText, refusalText, refusedText, Puts, Fills}
 
@@ -130,7 +130,7 @@ module _ {r : Reply} {n : ℕ} (told : Said r n) (x : List ℕ) {old new : List 
   fills-passed z f = subst (λ (q : Reply). Fills (ifAccepted q refusedText x) old k new) (sym (passed-reply r (told .passed z))) f
 
 -- the same of a sheet that was read: `made` is the text of its map
-module _ {o : Outcome} {n : ℕ} {words : List ℕ} (told : ReadAs o n words) (made : RegionMap → List ℕ) {old new : List ℕ} {k : ℕ} where
+module _ {o : SheetOutcome} {n : ℕ} {words : List ℕ} (told : ReadAs o n words) (made : RegionMap → List ℕ) {old new : List ℕ} {k : ℕ} where
   pub sheet-refused : (n ≡ 0 → ⊥) → Fills (refusalText n) old k new → Fills (ifAccepted (o .reply) refusedText (made (o .map))) old k new
   sheet-refused h f = fills-refused (told .said) (made (o .map)) h f
 

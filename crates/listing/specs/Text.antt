@@ -25,12 +25,12 @@ decimalText n = digits 10 (places 10 19 n) n
 abbrev pub spaced : List ℕ → List ℕ
 spaced word = word ++ (0x20 ∷ [])
 
-abbrev pub ended : List ℕ → List ℕ
-ended word = word ++ (0x0a ∷ [])
+abbrev pub endedLine : List ℕ → List ℕ
+endedLine word = word ++ (0x0a ∷ [])
 
 -- 'A refused sheet prints `refused N`'
 unfoldable pub refusalText : ℕ → List ℕ
-refusalText n = (0x72 ∷ 0x65 ∷ 0x66 ∷ 0x75 ∷ 0x73 ∷ 0x65 ∷ 0x64 ∷ 0x20 ∷ []) ++ ended (decimalText n)
+refusalText n = (0x72 ∷ 0x65 ∷ 0x66 ∷ 0x75 ∷ 0x73 ∷ 0x65 ∷ 0x64 ∷ 0x20 ∷ []) ++ endedLine (decimalText n)
 
 abbrev pub refusedText : Reply → List ℕ
 refusedText r = refusalText (numberOf r)

@@ -7,10 +7,13 @@ ghost use Rattle.map_records.specs.View.{entries};
 ghost use Rattle.map_records.specs.Words.{mapOf, viewOf};
 ghost use Rattle.listing.specs.Text.{refusalText, Puts, Fills};
 ghost use Rattle.listing.specs.Listing.{rangeText, rangesText, mapText, listingText};
+ghost use Rattle.map_records.specs.Limits.{viewLength, mostRanges};
 use crate::text::put_all;
 use crate::text::put_decimal;
 use crate::text::put_hex;
 use map_records::view::FlatRange;
+use map_records::words::MAP_WORDS;
+use map_records::words::VIEW_WORDS;
 use map_records::words::count_of;
 use map_records::words::range_at;
 use region_map::view;
@@ -54,7 +57,7 @@ fn put_range(text: &mut [u8], at: usize, range: FlatRange) -> usize
 
 // The lines of a view's ranges.
 fn put_ranges(view: &[u64], text: &mut [u8]) -> usize
-    requires { ⌜ (length (now view) ≡ 1537) × (viewOf (now view) .count ≤ 256) × (length (now text) ≡ 20480) ⌝ }
+    requires { ⌜ (length (now view) ≡ viewLength) × (viewOf (now view) .count ≤ mostRanges) × (length (now text) ≡ 20480) ⌝ }
     ensures { λ r. ⌜ Puts (rangesText (entries (viewOf (now (view .entry))))) (now (text .entry)) 0 r (now (text .exit)) ⌝ }
     ensures { λ r. ⌜ r ≤ 20480 ⌝ }
 {
@@ -74,7 +77,7 @@ fn list_map(map: &[u64], memory_length: u64, out: &mut [u8]) -> usize
     ensures { λ r. ⌜ Fills (mapText «memory_length» (mapOf (now (map .entry)))) (now (out .entry)) r (now (out .exit)) ⌝ }
     ensures { λ r. ⌜ r ≤ 20480 ⌝ }
 {
-    let mut flat = [0u64; 1537];
+    let mut flat = [0u64; VIEW_WORDS];
     let answer = flatten(map, memory_length, &mut flat);
     let refused = view::number_of(answer);
     if refused != 0 {
@@ -91,7 +94,7 @@ pub fn list_sheet(sheet: &[u8], memory_length: u64, out: &mut [u8]) -> usize
     ensures { λ r. ⌜ Fills (listingText (now (sheet .entry)) «memory_length») (now (out .entry)) r (now (out .exit)) ⌝ }
     ensures { λ r. ⌜ r ≤ 20480 ⌝ }
 {
-    let mut map = [0u64; 289];
+    let mut map = [0u64; MAP_WORDS];
     let answer = read_sheet(sheet, memory_length, &mut map);
     let refused = answer::number_of(answer);
     if refused != 0 {

@@ -4,9 +4,10 @@ use mathlib.Core.Bool.{true, false, cond, _&&_, _||_, not}
 use Prim.Native.Nat.{ℕ, suc, _+_, _-_, _≤_, _<_, max}
 use native.Mathlib.Omega.{arith}
 use lib.Dec.{eqb, leb, ltb}
-use borrow.Author.Tests.{ltb-true, ltb-false, le-ltb, leb-true, leb-false, lt-leb, eqb-true, eqb-false, not-true, lt-ltb, eq-eqb, ne-eqb}
-use Rattle.map_records.specs.Map.{container, mmio, alias, managed, has, valueOf, region}
-use Rattle.map_check.specs.Fault.{limit, parentOf, backed, kindFault, extra, largeFault, rangeFault, extraFault, fieldFault, parentFault, targetFault, rootFault, linkFault, memoryFault}
+use borrow.Author.Tests.{ltb-true, ltb-false, le-ltb, leb-true, leb-false, lt-leb, eqb-true, eqb-false, not-true, not-false, lt-ltb, eq-eqb, ne-eqb}
+use Rattle.map_records.specs.Map.{container, mmio, alias, managed, has, valueOf, region, isKind, hasMemory}
+use Rattle.map_check.specs.Fault.{parentOf, kindFault, extra, largeFault, rangeFault, extraFault, fieldFault, parentFault, targetFault, rootFault, linkFault, memoryFault}
+use Rattle.map_records.specs.Limits.{limit}
 use Rattle.map_check.specs.Clash.{share, shareBelow, priorityOf, memoryClash, managedClash, portClash, siblings, clashBelow, siblingClash}
 use Rattle.map_check.specs.Reply.{Reply, accepted, nodes, place, plain, _then_, passes, lowest, firstPair}
 use Rattle.map_check.specs.Contracts.{Walkable}
@@ -143,29 +144,29 @@ is-root : (r : Region) → Rooted r → rootFault r ≡ false
 is-root r h = rw (eq-eqb (r .kind) container (h .kind), eq-eqb (r .parent) 0 (h .parent), eq-eqb (r .offset) 0 (h .offset))
 
 -- 8: an end
-memory-end : (memory : ℕ) (r : Region) → memoryFault memory r ≡ false → backed r ≡ true → r .«memory_start» + r .size ≤ memory
-memory-end memory r e b = ltb-false memory (r .«memory_start» + r .size) (and-right (backed r) (ltb memory (r .«memory_start» + r .size)) e b)
+memory-end : (memory : ℕ) (r : Region) → memoryFault memory r ≡ false → hasMemory (r .kind) ≡ true → r .«memory_start» + r .size ≤ memory
+memory-end memory r e b = ltb-false memory (r .«memory_start» + r .size) (and-right (hasMemory (r .kind)) (ltb memory (r .«memory_start» + r .size)) e b)
 
-ends-within : (memory : ℕ) (r : Region) → (backed r ≡ true → r .«memory_start» + r .size ≤ memory) → memoryFault memory r ≡ false
+ends-within : (memory : ℕ) (r : Region) → (hasMemory (r .kind) ≡ true → r .«memory_start» + r .size ≤ memory) → memoryFault memory r ≡ false
 ends-within memory r h =
-    and-no (backed r) (ltb memory (r .«memory_start» + r .size)) (λ p q.
+    and-no (hasMemory (r .kind)) (ltb memory (r .«memory_start» + r .size)) (λ p q.
     let low = h p in
     let high = ltb-true memory (r .«memory_start» + r .size) q in
     omega arith)
 
 -- 8 to 11: pairs
-memory-apart : (a b : Region) → memoryClash a b ≡ false → backed a ≡ true → backed b ≡ true
+memory-apart : (a b : Region) → memoryClash a b ≡ false → hasMemory (a .kind) ≡ true → hasMemory (b .kind) ≡ true
     → Apart (a .«memory_start») (a .size) (b .«memory_start») (b .size)
 memory-apart a b e x y =
     apart (a .«memory_start») (a .size) (b .«memory_start») (b .size)
-    (and-right (backed a && backed b) (share (a .«memory_start») (a .size) (b .«memory_start») (b .size)) e (and-true (backed a) (backed b) x y))
+    (and-right (hasMemory (a .kind) && hasMemory (b .kind)) (share (a .«memory_start») (a .size) (b .«memory_start») (b .size)) e (and-true (hasMemory (a .kind)) (hasMemory (b .kind)) x y))
 
-apart-memory : (a b : Region) → (backed a ≡ true → backed b ≡ true → Apart (a .«memory_start») (a .size) (b .«memory_start») (b .size)) → memoryClash a b ≡ false
+apart-memory : (a b : Region) → (hasMemory (a .kind) ≡ true → hasMemory (b .kind) ≡ true → Apart (a .«memory_start») (a .size) (b .«memory_start») (b .size)) → memoryClash a b ≡ false
 apart-memory a b h =
-    and-no (backed a && backed b) (share (a .«memory_start») (a .size) (b .«memory_start») (b .size)) (λ p q.
+    and-no (hasMemory (a .kind) && hasMemory (b .kind)) (share (a .«memory_start») (a .size) (b .«memory_start») (b .size)) (λ p q.
     never
     (sym q
-    ∙ not-shared (a .«memory_start») (a .size) (b .«memory_start») (b .size) (h (and-fst (backed a) (backed b) p) (and-snd (backed a) (backed b) p))))
+    ∙ not-shared (a .«memory_start») (a .size) (b .«memory_start») (b .size) (h (and-fst (hasMemory (a .kind)) (hasMemory (b .kind)) p) (and-snd (hasMemory (a .kind)) (hasMemory (b .kind)) p))))
 
 managed-once : (a b : Region) → managedClash a b ≡ false → a .kind ≡ managed → b .kind ≡ managed → ⊥
 managed-once a b e x y =
@@ -325,7 +326,7 @@ module _ (m : RegionMap) (memory : ℕ) where
       record {
         some = some;
         count = ltb-false 32 (m .count) (or-right (eqb (m .count) 0) (ltb 32 (m .count)) (p .count));
-        kinds = λ n h. ltb-false managed (region m n .kind) (p .kinds n h);
+        kinds = λ n h. not-false (isKind (region m n .kind)) (p .kinds n h);
         bounded = λ n h. bounded-of (region m n) (p .fields n h);
         parents = λ n h. parented-of m n (links n h .0);
         targets = λ n h. target-of (region m n) n (links n h .1);
@@ -346,7 +347,7 @@ module _ (m : RegionMap) (memory : ℕ) where
   passed-of s =
       record {
         count = let some = s .some in rw (ne-eqb (m .count) 0 (λ z. omega arith), le-ltb 32 (m .count) (s .count));
-        kinds = λ n h. le-ltb managed (region m n .kind) (s .kinds n h);
+        kinds = λ n h. ap not (s .kinds n h);
         fields = λ n h. in-bounds (region m n) (s .bounded n h);
         links = λ n h. rw (has-parent m n (s .parents n h), has-target (region m n) n (s .targets n h)) (last n);
         ends = λ n h. ends-within memory (region m n) (s .ends n h);

@@ -12,15 +12,16 @@ use Rattle.map_check.specs.Reply.{Reply, accepted, nodes, place, plain}
 use Rattle.map_check.specs.Check.{judgedBy, judged, Accepted}
 use Rattle.map_check.specs.Contracts.{Tree}
 use Rattle.map_check.proofs.Accepted.{accepted-sound, accepted-walkable}
+use Rattle.map_records.specs.Limits.{mapLength}
 
-pub judged-other : (w : List ℕ) → (length w ≡ 289 → ⊥) → (memory : ℕ) → nodes 3 0 0 ≡ judged (mapOf w) memory
+pub judged-other : (w : List ℕ) → (length w ≡ mapLength → ⊥) → (memory : ℕ) → nodes 3 0 0 ≡ judged (mapOf w) memory
 unfolding judgedBy
 judged-other w other memory = rw (map-other w other)
 
 module _ (w : List ℕ) (memory : ℕ) (ok : Accepted (mapOf w) memory) where
-  pub accepted-words : length w ≡ 289
+  pub accepted-words : length w ≡ mapLength
   unfolding Accepted
-  accepted-words = ⊎-elim (λ e. e) (λ ne. let z : _≡_ {A = ℕ} 0 1 = ap number (judged-other w ne memory ∙ ok) in absurd (omega (arith, z))) (eq-or-not (length w) 289)
+  accepted-words = ⊎-elim (λ e. e) (λ ne. let z : _≡_ {A = ℕ} 0 1 = ap number (judged-other w ne memory ∙ ok) in absurd (omega (arith, z))) (eq-or-not (length w) mapLength)
     where
       number : Reply → ℕ
       number accepted = 1

@@ -2,8 +2,8 @@
 use mathlib.Core.Bool.{Bool, cond, _&&_, not}
 use Prim.Native.Nat.{ℕ, _+_, max}
 use lib.Dec.{eqb, ltb}
-use Rattle.map_records.specs.Map.{mmio, managed, region}
-use Rattle.map_check.specs.Fault.{parentOf, backed}
+use Rattle.map_records.specs.Map.{mmio, managed, region, hasMemory}
+use Rattle.map_check.specs.Fault.{parentOf}
 use Rattle.map_records.specs.declared.map.Region.{Region}
 use Rattle.map_records.specs.declared.map.RegionMap.{RegionMap}
 
@@ -28,7 +28,7 @@ priorityOf = priorityWith defaultOf
 
 -- 8: 'two such ranges share a byte'
 abbrev pub memoryClash : Region → Region → Bool
-memoryClash a b = backed a && backed b && share (a .«memory_start») (a .size) (b .«memory_start») (b .size)
+memoryClash a b = hasMemory (a .kind) && hasMemory (b .kind) && share (a .«memory_start») (a .size) (b .«memory_start») (b .size)
 
 -- 9: 'more than one managed node'
 abbrev pub managedClash : Region → Region → Bool

@@ -2,13 +2,15 @@
 use mathlib.Core.Path.{_≡_}
 use mathlib.Core.Bool.{Bool}
 use mathlib.Core.List.{List}
-use Prim.Native.Nat.{ℕ, _^_, _≤_, _<_}
+use Prim.Native.Nat.{ℕ, _≤_, _<_}
 use lib.ListN.{length}
 use Rattle.map_records.specs.Map.{alias, region}
 use Rattle.map_records.specs.Words.{mapOf}
 use Rattle.map_check.specs.Reply.{Reply, accepted, nodes, _then_, lowest, firstPair}
 use Rattle.map_check.specs.Fault.{kindFault, fieldFault, linkFault, memoryFault}
 use Rattle.map_check.specs.Clash.{priorityOf, memoryClash, managedClash, portClash, siblingClash}
+use Rattle.map_records.specs.Refusal as refusal
+use Rattle.map_records.specs.Limits.{limit, mostRegions, mostInByte, mapLength}
 use Rattle.map_records.specs.declared.map.RegionMap.{RegionMap}
 use Rattle.map_check.specs.declared.fault.NodeRule.{NodeRule}
 use Rattle.map_check.specs.declared.fault.NodeRule.the-variants as node
@@ -21,8 +23,8 @@ use Rattle.map_check.specs.declared.search.Pair.the-variants as found
 
 -- words of a map whose count is one that a map can have
 pub record Counted (w : List ℕ) : Type 0 where
-  pub words : length w ≡ 289
-  pub few : mapOf w .count ≤ 32
+  pub words : length w ≡ mapLength
+  pub few : mapOf w .count ≤ mostRegions
 
 -- the rule that a search over the regions goes by, of a map over a memory
 abbrev pub fault : NodeRule → RegionMap → ℕ → ℕ → Bool
@@ -51,27 +53,27 @@ FirstIs f n found.Nothing = (k : ℕ) → firstPair k f n ≡ accepted
 -- the part of the check that goes over one region, and the part that goes over two
 unfoldable pub onRegions : RegionMap → ℕ → Reply
 onRegions m memory =
-    lowest 4 (fault node.Kind m memory) (m .count)
-    then lowest 6 (fault node.Field m memory) (m .count)
-    then lowest 7 (fault node.Link m memory) (m .count)
-    then lowest 8 (fault node.Memory m memory) (m .count)
+    lowest refusal.KIND (fault node.Kind m memory) (m .count)
+    then lowest refusal.FIELD (fault node.Field m memory) (m .count)
+    then lowest refusal.LINK (fault node.Link m memory) (m .count)
+    then lowest refusal.MEMORY (fault node.Memory m memory) (m .count)
 
 unfoldable pub onPairs : RegionMap → Reply
 onPairs m =
-    firstPair 8 (clash pair.Memory m) (m .count)
-    then firstPair 9 (clash pair.Managed m) (m .count)
-    then firstPair 10 (clash pair.Ports m) (m .count)
-    then firstPair 11 (clash pair.Siblings m) (m .count)
+    firstPair refusal.MEMORY (clash pair.Memory m) (m .count)
+    then firstPair refusal.MANAGED (clash pair.Managed m) (m .count)
+    then firstPair refusal.PORT (clash pair.Ports m) (m .count)
+    then firstPair refusal.OVERLAP (clash pair.Siblings m) (m .count)
 
 -- what the walk needs of a map; `Sound` gives it
 pub record Walkable (m : RegionMap) : Type 0 where
-  pub count : m .count ≤ 32
+  pub count : m .count ≤ mostRegions
   pub targets : (n : ℕ) → n < m .count → region m n .kind ≡ alias → region m n .target < n
-  pub sizes : (n : ℕ) → n < m .count → region m n .size ≤ 2 ^ 48
-  pub aliases : (n : ℕ) → n < m .count → region m n .«alias_offset» ≤ 2 ^ 48
-  pub priorities : (n : ℕ) → n < m .count → region m n .priority ≤ 255
+  pub sizes : (n : ℕ) → n < m .count → region m n .size ≤ limit
+  pub aliases : (n : ℕ) → n < m .count → region m n .«alias_offset» ≤ limit
+  pub priorities : (n : ℕ) → n < m .count → region m n .priority ≤ mostInByte
 
 -- words of a map that can be gone through
 pub record Tree (w : List ℕ) : Type 0 where
-  pub words : length w ≡ 289
+  pub words : length w ≡ mapLength
   pub walkable : Walkable (mapOf w)

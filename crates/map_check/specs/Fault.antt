@@ -1,20 +1,17 @@
 -- The rules over one region: 4, 6, 7 and the first half of 8. Assumes nothing: these are definitions.
 use mathlib.Core.Bool.{Bool, _&&_, _||_, not}
-use Prim.Native.Nat.{ℕ, _+_, _-_, _^_}
+use Prim.Native.Nat.{ℕ, _+_, _-_}
 use lib.Dec.{eqb, leb, ltb}
-use Rattle.map_records.specs.Map.{container, ram, alias, managed, has, valueOf, region}
+use Rattle.map_records.specs.Map.{container, alias, managed, has, valueOf, region, hasMemory, isKind}
+use Rattle.map_records.specs.Limits.{limit, mostInByte}
 use Rattle.map_records.specs.declared.map.Region.{Region}
 use Rattle.map_records.specs.declared.map.RegionMap.{RegionMap}
 use Rattle.map_records.specs.declared.map.Field.{Field}
 use Rattle.map_records.specs.declared.map.Field.the-variants.{MemoryStart, Port, Target, AliasOffset}
 
--- the largest offset and size
-abbrev pub limit : ℕ
-limit = 2 ^ 48
-
 -- 4: 'kind over 4'
 abbrev pub kindFault : ℕ → Bool
-kindFault kind = ltb managed kind
+kindFault kind = not (isKind kind)
 
 -- 6: 'a field that the kind lacks not 0'
 abbrev pub extra : Region → Field → Bool
@@ -25,7 +22,7 @@ abbrev pub largeFault : Region → Bool
 largeFault r = ltb limit (r .offset) || ltb limit (r .«alias_offset») || ltb limit (r .«memory_start»)
 
 abbrev pub rangeFault : Region → Bool
-rangeFault r = eqb (r .size) 0 || ltb limit (r .size) || ltb 255 (r .priority) || ltb 255 (r .port)
+rangeFault r = eqb (r .size) 0 || ltb limit (r .size) || ltb mostInByte (r .priority) || ltb mostInByte (r .port)
 
 abbrev pub extraFault : Region → Bool
 extraFault r = extra r MemoryStart || extra r Port || extra r Target || extra r AliasOffset
@@ -56,10 +53,6 @@ rootFault r = not (eqb (r .kind) container) || not (eqb (r .parent) 0) || not (e
 unfoldable pub linkFault : RegionMap → ℕ → Bool
 linkFault m n = parentFault m n || targetFault (region m n) n || (eqb (n + 1) (m .count) && rootFault (region m n))
 
--- a region whose bytes lie in guest memory
-abbrev pub backed : Region → Bool
-backed r = eqb (r .kind) ram || eqb (r .kind) managed
-
 -- 8: 'memory start + size over the memory's length'
 abbrev pub memoryFault : ℕ → Region → Bool
-memoryFault memory r = backed r && ltb memory (r .«memory_start» + r .size)
+memoryFault memory r = hasMemory (r .kind) && ltb memory (r .«memory_start» + r .size)

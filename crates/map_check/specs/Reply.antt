@@ -1,5 +1,6 @@
 -- What a call answers in document 01's terms, and the first refusal of several. Assumes nothing: these are definitions.
 use mathlib.Core.Bool.{Bool, true, false, cond, _&&_}
+use mathlib.Core.List.{List}
 use Prim.Native.Nat.{ℕ, zero, suc}
 use lib.Dec.{ltb}
 
@@ -54,3 +55,14 @@ numberOf accepted = 0
 numberOf (nodes k i j) = k
 numberOf (place k p) = k
 numberOf (plain k) = k
+
+-- what a call that makes a record leaves in the lent words: the record's or, on a refusal, those that were there
+abbrev pub leftWords : Reply → List ℕ → List ℕ → List ℕ
+leftWords r made old = cond (passes r) made old
+
+pub record Laid : Type 0 where
+  pub reply : Reply
+  pub words : List ℕ
+
+abbrev pub laidInto : Reply → List ℕ → List ℕ → Laid
+laidInto r made old = record { reply = r; words = leftWords r made old }

@@ -2,8 +2,9 @@
 use mathlib.Core.Path.{_≡_}
 use mathlib.Core.Bool.{true, false}
 use Prim.Native.Nat.{ℕ, _+_, _-_, _≤_, _<_}
-use Rattle.map_records.specs.Map.{container, mmio, alias, managed, has, valueOf, region}
-use Rattle.map_check.specs.Fault.{limit, parentOf, backed}
+use Rattle.map_records.specs.Map.{container, mmio, alias, managed, has, valueOf, region, hasMemory, isKind}
+use Rattle.map_check.specs.Fault.{parentOf}
+use Rattle.map_records.specs.Limits.{limit, mostRegions, mostInByte}
 use Rattle.map_check.specs.Clash.{priorityOf}
 use Rattle.map_records.specs.declared.map.Region.{Region}
 use Rattle.map_records.specs.declared.map.RegionMap.{RegionMap}
@@ -24,8 +25,8 @@ pub record Bounded (r : Region) : Type 0 where
   pub start : r .«memory_start» ≤ limit
   pub filled : 0 < r .size
   pub size : r .size ≤ limit
-  pub priority : r .priority ≤ 255
-  pub port : r .port ≤ 255
+  pub priority : r .priority ≤ mostInByte
+  pub port : r .port ≤ mostInByte
   pub lacked : (f : Field) → has (r .kind) f ≡ false → valueOf f r ≡ 0
 
 -- 7: the parent of region n
@@ -44,14 +45,14 @@ pub record Rooted (r : Region) : Type 0 where
 -- the facts of a map that the check lets pass, over a guest memory of so many bytes
 pub record Sound (m : RegionMap) (memory : ℕ) : Type 0 where
   pub some : 0 < m .count
-  pub count : m .count ≤ 32
-  pub kinds : (n : ℕ) → n < m .count → region m n .kind ≤ managed
+  pub count : m .count ≤ mostRegions
+  pub kinds : (n : ℕ) → n < m .count → isKind (region m n .kind) ≡ true
   pub bounded : (n : ℕ) → n < m .count → Bounded (region m n)
   pub parents : (n : ℕ) → n < m .count → (region m n .parent ≡ 0 → ⊥) → Parented m n
   pub targets : (n : ℕ) → n < m .count → region m n .kind ≡ alias → region m n .target < n
   pub root : Rooted (region m (m .count - 1))
-  pub ends : (n : ℕ) → n < m .count → backed (region m n) ≡ true → region m n .«memory_start» + region m n .size ≤ memory
-  pub bytes : (i j : ℕ) → i < j → j < m .count → backed (region m i) ≡ true → backed (region m j) ≡ true
+  pub ends : (n : ℕ) → n < m .count → hasMemory (region m n .kind) ≡ true → region m n .«memory_start» + region m n .size ≤ memory
+  pub bytes : (i j : ℕ) → i < j → j < m .count → hasMemory (region m i .kind) ≡ true → hasMemory (region m j .kind) ≡ true
       → Apart (region m i .«memory_start») (region m i .size) (region m j .«memory_start») (region m j .size)
   pub single : (i j : ℕ) → i < j → j < m .count → region m i .kind ≡ managed → region m j .kind ≡ managed → ⊥
   pub ports : (i j : ℕ) → i < j → j < m .count → region m i .kind ≡ mmio → region m j .kind ≡ mmio → region m i .port ≡ region m j .port → ⊥

@@ -11,6 +11,8 @@ use crate::search::Pair;
 use crate::search::first_pair;
 use crate::search::lowest_fault;
 use map_records::map::REGIONS;
+use map_records::refusal;
+use map_records::words::MAP_WORDS;
 use map_records::words::region_count;
 
 // Accepted, or the refusal of document 01 with its nodes: 3, 4 and 6 to 11.
@@ -83,11 +85,11 @@ fn check_pairs(map: &[u64]) -> MapAnswer
     MapAnswer::Accepted
 }
 
-// Judges a map against the length of guest memory. Words of another number than 289 are a map of no regions.
+// Judges a map against the length of guest memory. Words of another number than a map's are a map of no regions.
 pub fn check_map(map: &[u64], memory_length: u64) -> MapAnswer
     ensures { λ r. ⌜ reply r ≡ judged (mapOf (now (map .entry))) «memory_length» ⌝ }
 {
-    if map.len() != 289 {
+    if map.len() != MAP_WORDS {
         return MapAnswer::Count;
     }
     let count = region_count(map);
@@ -107,13 +109,13 @@ pub fn number_of(answer: MapAnswer) -> u64
 {
     match answer {
         MapAnswer::Accepted => 0,
-        MapAnswer::Count => 3,
-        MapAnswer::Kind(_) => 4,
-        MapAnswer::Field(_) => 6,
-        MapAnswer::Link(_) => 7,
-        MapAnswer::Memory(_, _) => 8,
-        MapAnswer::Managed(_, _) => 9,
-        MapAnswer::Port(_, _) => 10,
-        MapAnswer::Overlap(_, _) => 11,
+        MapAnswer::Count => refusal::COUNT,
+        MapAnswer::Kind(_) => refusal::KIND,
+        MapAnswer::Field(_) => refusal::FIELD,
+        MapAnswer::Link(_) => refusal::LINK,
+        MapAnswer::Memory(_, _) => refusal::MEMORY,
+        MapAnswer::Managed(_, _) => refusal::MANAGED,
+        MapAnswer::Port(_, _) => refusal::PORT,
+        MapAnswer::Overlap(_, _) => refusal::OVERLAP,
     }
 }

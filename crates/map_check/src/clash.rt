@@ -8,12 +8,13 @@ ghost use Rattle.map_check.specs.Clash.{share as shareOf, siblings as si
 ghost use Rattle.map_check.specs.Clash.{priorityOf, memoryClash, managedClash, portClash, clashBelow};
 ghost use Rattle.map_check.specs.Contracts.{clash};
 ghost use Rattle.map_check.specs.Fault.{parentOf};
+ghost use Rattle.map_records.specs.Limits.{mapLength, mostRegions};
 use crate::priority::priority_of;
 use map_records::map::MANAGED;
 use map_records::map::MMIO;
-use map_records::map::RAM;
 use map_records::map::REGIONS;
 use map_records::map::Region;
+use map_records::map::has_memory;
 use map_records::words::region_at;
 
 // The rules that are searched for over all pairs: 8's shared byte, 9, 10 and 11.
@@ -37,9 +38,7 @@ fn share(a: u64, s: u64, b: u64, t: u64) -> bool
 fn memory_clash(a: Region, b: Region) -> bool
     ensures { λ r. ⌜ r ≡ memoryClash a b ⌝ }
 {
-    let first = (a.kind == RAM) | (a.kind == MANAGED);
-    let second = (b.kind == RAM) | (b.kind == MANAGED);
-    first & second & share(a.memory_start, a.size, b.memory_start, b.size)
+    has_memory(a.kind) & has_memory(b.kind) & share(a.memory_start, a.size, b.memory_start, b.size)
 }
 
 fn managed_clash(a: Region, b: Region) -> bool
@@ -72,7 +71,7 @@ fn parent_of(r: Region) -> usize
 
 // The size of region n, and 0 where a map has no room for such a region.
 fn size_of(map: &[u64], n: usize) -> u64
-    requires { ⌜ length (now map) ≡ 289 ⌝ }
+    requires { ⌜ length (now map) ≡ mapLength ⌝ }
     ensures { λ r. ⌜ r ≡ region (mapOf (now (map .entry))) n .size ⌝ }
 {
     if n < REGIONS {
@@ -85,7 +84,7 @@ fn size_of(map: &[u64], n: usize) -> u64
 // The lowest address that two children share is the larger of their offsets. Only those below their parent's size are
 // ever asked of them.
 fn sibling_clash(map: &[u64], a: Region, b: Region) -> bool
-    requires { ⌜ length (now map) ≡ 289 ⌝ }
+    requires { ⌜ length (now map) ≡ mapLength ⌝ }
     ensures { λ r. ⌜ r ≡ clashBelow priorityOf (region (mapOf (now (map .entry))) (parentOf a) .size) a b ⌝ }
 {
     let end = size_of(map, parent_of(a));
@@ -96,7 +95,7 @@ fn sibling_clash(map: &[u64], a: Region, b: Region) -> bool
 
 // Do regions i and j clash by the rule?
 pub fn clashes(map: &[u64], rule: PairRule, i: usize, j: usize) -> bool
-    requires { ⌜ (length (now map) ≡ 289) × (i < 32) × (j < 32) ⌝ }
+    requires { ⌜ (length (now map) ≡ mapLength) × (i < mostRegions) × (j < mostRegions) ⌝ }
     ensures { λ r. ⌜ r ≡ clash rule (mapOf (now (map .entry))) i j ⌝ }
 {
     let a = region_at(map, i);

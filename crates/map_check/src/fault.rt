@@ -9,10 +9,12 @@ use map_records::map::ALIAS;
 use map_records::map::CONTAINER;
 use map_records::map::Field;
 use map_records::map::MANAGED;
-use map_records::map::RAM;
 use map_records::map::Region;
 use map_records::map::has;
+use map_records::map::has_memory;
+use map_records::map::is_kind;
 use map_records::numbers::LIMIT;
+use map_records::numbers::MOST_IN_BYTE;
 use map_records::numbers::sum_within;
 use map_records::words::region_at;
 use map_records::words::region_count;
@@ -38,7 +40,10 @@ fn field_fault(r: Region) -> bool
     ensures { λ b. ⌜ b ≡ fieldFault r ⌝ }
 {
     let large = (LIMIT < r.offset) | (LIMIT < r.alias_offset) | (LIMIT < r.memory_start);
-    let range = (r.size == 0) | (LIMIT < r.size) | (255 < r.priority) | (255 < r.port);
+    let range = (r.size == 0)
+        | (LIMIT < r.size)
+        | (MOST_IN_BYTE < r.priority)
+        | (MOST_IN_BYTE < r.port);
     let more = extra(r, Field::MemoryStart)
         | extra(r, Field::Port)
         | extra(r, Field::Target)
@@ -93,8 +98,7 @@ fn link_fault(map: &[u64], n: usize) -> bool
 fn memory_fault(memory_length: u64, r: Region) -> bool
     ensures { λ b. ⌜ b ≡ memoryFault «memory_length» r ⌝ }
 {
-    let backed = (r.kind == RAM) | (r.kind == MANAGED);
-    backed & !sum_within(r.memory_start, r.size, memory_length)
+    has_memory(r.kind) & !sum_within(r.memory_start, r.size, memory_length)
 }
 
 // Is region n at fault by the rule?
@@ -104,7 +108,7 @@ pub fn at_fault(map: &[u64], memory_length: u64, rule: NodeRule, n: usize) -> bo
 {
     let r = region_at(map, n);
     match rule {
-        NodeRule::Kind => MANAGED < r.kind,
+        NodeRule::Kind => !is_kind(r.kind),
         NodeRule::Field => field_fault(r),
         NodeRule::Link => link_fault(map, n),
         NodeRule::Memory => memory_fault(memory_length, r),

@@ -8,9 +8,10 @@ use native.Mathlib.Omega.{arith}
 use lib.ListN.{length, set, getD, replicate, length-replicate, length-set, drop-of-length-le, List·getD-eq-default}
 use lib.Seq.{sets, drop-cons, length-sets, getD-set-same, getD-set-other}
 use borrow.Author.Tests.{eq-eqb, ne-eqb}
-use Rattle.map_records.specs.Map.{noRegion, region, emptyMap}
+use Rattle.map_records.specs.Map.{noRegion, region, blankMap}
 use Rattle.map_records.specs.View.{noRange, rangeOf}
 use Rattle.map_records.specs.Words.{eachAt, eachWords, regionAt, mapOf, regionWords, mapWords, rangeAt, noView, viewOf, rangeWords, viewWords}
+use Rattle.map_records.specs.Limits.{mapLength, viewLength}
 use Rattle.map_records.specs.declared.map.Region.{Region}
 use Rattle.map_records.specs.declared.map.RegionMap.{RegionMap}
 use Rattle.map_records.specs.declared.view.FlatRange.{FlatRange}
@@ -71,10 +72,10 @@ pub ranges-grouped : Grouped rangeAt rangeWords 6
 ranges-grouped = record { size = λ x. refl; each = λ w at j h. word-at w at 5 j h; back = range-back }
 
 -- ---- the map that 289 words stand for, and words of another number
-module _ (w : List ℕ) (size : length w ≡ 289) where
+module _ (w : List ℕ) (size : length w ≡ mapLength) where
   map-words : mapOf w ≡ record { count = getD w 0 0; regions = eachAt regionAt 9 w 1 32 }
   unfolding mapOf
-  map-words = rw (eq-eqb (length w) 289 size)
+  map-words = rw (eq-eqb (length w) mapLength size)
 
   pub region-count-words : mapOf w .count ≡ getD w 0 0
   region-count-words = ap (λ (m : RegionMap). m .count) map-words
@@ -94,17 +95,17 @@ module _ (w : List ℕ) (size : length w ≡ 289) where
       ap mapWords map-words
       ∙ sym (drop-cons w 0 0 (omega arith)
       ∙ ap (λ (l : List ℕ). getD w 0 0 ∷ l)
-      (words-back regions-grouped w 1 32 (omega arith) ∙ rw (drop-of-length-le w {i = 289} (omega arith)) (append-nil (eachWords regionWords (eachAt regionAt 9 w 1 32)))))
+      (words-back regions-grouped w 1 32 (omega arith) ∙ rw (drop-of-length-le w {i = mapLength} (omega arith)) (append-nil (eachWords regionWords (eachAt regionAt 9 w 1 32)))))
 
-pub map-other : (w : List ℕ) → (length w ≡ 289 → ⊥) → mapOf w ≡ emptyMap
+pub map-other : (w : List ℕ) → (length w ≡ mapLength → ⊥) → mapOf w ≡ blankMap 0
 unfolding mapOf
-map-other w other = rw (ne-eqb (length w) 289 other)
+map-other w other = rw (ne-eqb (length w) mapLength other)
 
 -- ---- the view that 1,537 words stand for, and words of another number
-module _ (w : List ℕ) (size : length w ≡ 1537) where
+module _ (w : List ℕ) (size : length w ≡ viewLength) where
   view-words : viewOf w ≡ record { count = getD w 0 0; ranges = eachAt rangeAt 6 w 1 256 }
   unfolding viewOf
-  view-words = rw (eq-eqb (length w) 1537 size)
+  view-words = rw (eq-eqb (length w) viewLength size)
 
   pub count-words : viewOf w .count ≡ getD w 0 0
   count-words = ap (λ (v : FlatView). v .count) view-words
@@ -118,25 +119,25 @@ module _ (w : List ℕ) (size : length w ≡ 1537) where
       ap viewWords view-words
       ∙ sym (drop-cons w 0 0 (omega arith)
       ∙ ap (λ (l : List ℕ). getD w 0 0 ∷ l)
-      (words-back ranges-grouped w 1 256 (omega arith) ∙ rw (drop-of-length-le w {i = 1537} (omega arith)) (append-nil (eachWords rangeWords (eachAt rangeAt 6 w 1 256)))))
+      (words-back ranges-grouped w 1 256 (omega arith) ∙ rw (drop-of-length-le w {i = viewLength} (omega arith)) (append-nil (eachWords rangeWords (eachAt rangeAt 6 w 1 256)))))
 
-pub view-other : (w : List ℕ) → (length w ≡ 1537 → ⊥) → viewOf w ≡ noView
+pub view-other : (w : List ℕ) → (length w ≡ viewLength → ⊥) → viewOf w ≡ noView
 unfolding viewOf
-view-other w other = rw (ne-eqb (length w) 1537 other)
+view-other w other = rw (ne-eqb (length w) viewLength other)
 
 pub full-words : (w : List ℕ) → length (viewOf w .ranges) ≡ 256
 full-words w =
     ⊎-elim (λ e. ap (λ (v : FlatView). length (v .ranges)) (view-words w e) ∙ groups-length ranges-grouped w 1 256)
-    (λ ne. ap (λ (v : FlatView). length (v .ranges)) (view-other w ne) ∙ length-replicate 256 noRange) (eq-or-not (length w) 1537)
+    (λ ne. ap (λ (v : FlatView). length (v .ranges)) (view-other w ne) ∙ length-replicate 256 noRange) (eq-or-not (length w) viewLength)
 
 -- ---- one region or range stored, or the count
-module _ (w : List ℕ) (size : length w ≡ 289) where
+module _ (w : List ℕ) (size : length w ≡ mapLength) where
   pub region-stored : (i : ℕ) (x : Region) → i < 32 → mapOf (sets w (1 + 9 * i) (regionWords x)) ≡ record { count = mapOf w .count; regions = set (mapOf w .regions) i x }
   region-stored i x h =
       map-words (sets w (1 + 9 * i) (regionWords x)) (length-sets w (1 + 9 * i) (regionWords x) ∙ size)
       ∙ (λ j. record { count = (sets-below w (1 + 9 * i) (regionWords x) 0 (omega arith) ∙ sym (region-count-words w size)) j; regions = (stored-group regions-grouped w 1 32 i x h (omega arith) ∙ ap (λ (m : RegionMap). set (m .regions) i x) (sym (map-words w size))) j })
 
-module _ (w : List ℕ) (size : length w ≡ 1537) where
+module _ (w : List ℕ) (size : length w ≡ viewLength) where
   pub range-stored : (i : ℕ) (x : FlatRange) → i < 256 → viewOf (sets w (1 + 6 * i) (rangeWords x)) ≡ record { count = viewOf w .count; ranges = set (viewOf w .ranges) i x }
   range-stored i x h =
       view-words (sets w (1 + 6 * i) (rangeWords x)) (length-sets w (1 + 6 * i) (rangeWords x) ∙ size)
@@ -146,12 +147,12 @@ module _ (w : List ℕ) (size : length w ≡ 1537) where
 behind-first : (w : List ℕ) (n j : ℕ) → 1 ≤ j → getD (set w 0 n) j 0 ≡ getD w j 0
 behind-first w n j h = getD-set-other w 0 j n 0 (λ e. omega arith)
 
-pub region-count-stored : (w : List ℕ) → length w ≡ 289 → (n : ℕ) → mapOf (set w 0 n) ≡ record { count = n; regions = mapOf w .regions }
+pub region-count-stored : (w : List ℕ) → length w ≡ mapLength → (n : ℕ) → mapOf (set w 0 n) ≡ record { count = n; regions = mapOf w .regions }
 region-count-stored w size n =
     map-words (set w 0 n) (length-set w 0 n ∙ size)
     ∙ (λ j. record { count = getD-set-same w 0 n 0 (omega arith) j; regions = (reads-same regions-grouped (set w 0 n) w 1 32 (behind-first w n) ∙ ap (λ (m : RegionMap). m .regions) (sym (map-words w size))) j })
 
-pub count-stored : (w : List ℕ) → length w ≡ 1537 → (n : ℕ) → viewOf (set w 0 n) ≡ record { count = n; ranges = viewOf w .ranges }
+pub count-stored : (w : List ℕ) → length w ≡ viewLength → (n : ℕ) → viewOf (set w 0 n) ≡ record { count = n; ranges = viewOf w .ranges }
 count-stored w size n =
     view-words (set w 0 n) (length-set w 0 n ∙ size)
     ∙ (λ j. record { count = getD-set-same w 0 n 0 (omega arith) j; ranges = (reads-same ranges-grouped (set w 0 n) w 1 256 (behind-first w n) ∙ ap (λ (v : FlatView). v .ranges) (sym (view-words w size))) j })
@@ -168,15 +169,15 @@ blank-range j h = zero-words 6 j
 blank-region : (j : ℕ) → j < 9 → getD (regionWords noRegion) j 0 ≡ 0
 blank-region j h = zero-words 9 j
 
-pub empty-words : viewOf (replicate 1537 0) ≡ record { count = 0; ranges = replicate 256 noRange }
+pub empty-words : viewOf (replicate viewLength 0) ≡ record { count = 0; ranges = replicate 256 noRange }
 empty-words =
-    view-words (replicate 1537 0) (length-replicate {A = ℕ} 1537 0)
-    ∙ (λ j. record { count = zero-words 1537 0 j; ranges = reads-blank ranges-grouped (replicate 1537 0) 1 256 noRange blank-range (zero-words 1537) j })
+    view-words (replicate viewLength 0) (length-replicate {A = ℕ} viewLength 0)
+    ∙ (λ j. record { count = zero-words viewLength 0 j; ranges = reads-blank ranges-grouped (replicate viewLength 0) 1 256 noRange blank-range (zero-words viewLength) j })
 
-pub empty-map-words : mapOf (replicate 289 0) ≡ emptyMap
+pub empty-map-words : mapOf (replicate mapLength 0) ≡ blankMap 0
 empty-map-words =
-    map-words (replicate 289 0) (length-replicate {A = ℕ} 289 0)
-    ∙ (λ j. record { count = zero-words 289 0 j; regions = reads-blank regions-grouped (replicate 289 0) 1 32 noRegion blank-region (zero-words 289) j })
+    map-words (replicate mapLength 0) (length-replicate {A = ℕ} mapLength 0)
+    ∙ (λ j. record { count = zero-words mapLength 0 j; regions = reads-blank regions-grouped (replicate mapLength 0) 1 32 noRegion blank-region (zero-words mapLength) j })
 
 -- ---- words fix the map or view that they are of
 pub map-words-injective : (m n : RegionMap) → mapWords m ≡ mapWords n → m ≡ n
@@ -195,11 +196,11 @@ view-words-injective u v e =
 pub words-map : (m : RegionMap) → length (m .regions) ≡ 32 → mapOf (mapWords m) ≡ m
 unfolding mapWords
 words-map m h =
-    let size : length (mapWords m) ≡ 289 = omega (arith, puts-length regions-grouped (m .regions)) in
+    let size : length (mapWords m) ≡ mapLength = omega (arith, puts-length regions-grouped (m .regions)) in
     map-words-injective (mapOf (mapWords m)) m (map-back (mapWords m) size)
 
 pub words-view : (v : FlatView) → length (v .ranges) ≡ 256 → viewOf (viewWords v) ≡ v
 unfolding viewWords
 words-view v h =
-    let size : length (viewWords v) ≡ 1537 = omega (arith, puts-length ranges-grouped (v .ranges)) in
+    let size : length (viewWords v) ≡ viewLength = omega (arith, puts-length ranges-grouped (v .ranges)) in
     view-words-injective (viewOf (viewWords v)) v (view-back (viewWords v) size)

@@ -1,3 +1,5 @@
+pub mod Limits
+pub mod Refusal
 pub mod Map
 pub mod View
 pub mod Words

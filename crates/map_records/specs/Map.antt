@@ -1,8 +1,9 @@
 -- Readings of the records of a region map. Assumes nothing: these are definitions.
 use mathlib.Core.Bool.{Bool, true, _||_}
 use Prim.Native.Nat.{ℕ}
-use lib.Dec.{eqb}
+use lib.Dec.{eqb, leb}
 use lib.ListN.{getD, replicate}
+use Rattle.map_records.specs.Limits.{mostRegions}
 use Rattle.map_records.specs.declared.map.Region.{Region}
 use Rattle.map_records.specs.declared.map.RegionMap.{RegionMap}
 use Rattle.map_records.specs.declared.map.Field.{Field}
@@ -24,6 +25,14 @@ alias = 3
 abbrev pub managed : ℕ
 managed = 4
 
+-- one of them: 4 is given from the next number on
+abbrev pub isKind : ℕ → Bool
+isKind kind = leb kind managed
+
+-- the kinds whose bytes lie in guest memory
+abbrev pub hasMemory : ℕ → Bool
+hasMemory kind = eqb kind ram || eqb kind managed
+
 abbrev pub noRegion : Region
 noRegion = record { kind = 0; parent = 0; offset = 0; size = 0; priority = 0; «memory_start» = 0; port = 0; target = 0; «alias_offset» = 0 }
 
@@ -31,9 +40,9 @@ noRegion = record { kind = 0; parent = 0; offset = 0; size = 0; priority = 0; «
 abbrev pub region : RegionMap → ℕ → Region
 region m n = getD (m .regions) n noRegion
 
--- the map of no regions
-abbrev pub emptyMap : RegionMap
-emptyMap = record { count = 0; regions = replicate 32 noRegion }
+-- a map of n regions of which nothing is known
+abbrev pub blankMap : ℕ → RegionMap
+blankMap n = record { count = n; regions = replicate mostRegions noRegion }
 
 -- 'The tree' and 'The sheet': RAM and managed nodes have a memory start, MMIO a port, an alias its target and alias offset; every node has the rest.
 abbrev pub has : ℕ → Field → Bool
@@ -41,7 +50,7 @@ has kind Parent = true
 has kind Offset = true
 has kind Size = true
 has kind Priority = true
-has kind MemoryStart = eqb kind ram || eqb kind managed
+has kind MemoryStart = hasMemory kind
 has kind Port = eqb kind mmio
 has kind Target = eqb kind alias
 has kind AliasOffset = eqb kind alias

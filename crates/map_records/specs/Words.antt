@@ -2,9 +2,9 @@
 use mathlib.Core.Bool.{cond}
 use mathlib.Core.List.{List, [], _∷_, _++_}
 use Prim.Native.Nat.{ℕ, zero, suc, _+_}
-use lib.Dec.{eqb}
-use lib.ListN.{length, getD, replicate}
-use Rattle.map_records.specs.Map.{emptyMap}
+use lib.ListN.{getD, replicate}
+use Rattle.map_records.specs.Limits.{mostRegions, regionLength, isMap, mostRanges, rangeLength, isView}
+use Rattle.map_records.specs.Map.{blankMap}
 use Rattle.map_records.specs.View.{noRange}
 use Rattle.map_records.specs.declared.map.Region.{Region}
 use Rattle.map_records.specs.declared.map.RegionMap.{RegionMap}
@@ -21,7 +21,7 @@ unfoldable pub eachWords : {A : Type 0} → (A → List ℕ) → List A → List
 eachWords words [] = []
 eachWords words (x ∷ xs) = words x ++ eachWords words xs
 
--- the nine words of a region
+-- the words of a region
 abbrev pub regionAt : List ℕ → ℕ → Region
 regionAt w at =
     record {
@@ -36,9 +36,9 @@ regionAt w at =
       «alias_offset» = getD w (at + 8) 0;
     }
 
--- a map of 289 words: the count, and 32 regions of 9; words of another number stand for the map of no regions, which 3 refuses
+-- a map: the count, and the regions; words of another number stand for the map of no regions, which 3 refuses
 unfoldable pub mapOf : List ℕ → RegionMap
-mapOf w = cond (eqb (length w) 289) (record { count = getD w 0 0; regions = eachAt regionAt 9 w 1 32 }) emptyMap
+mapOf w = cond (isMap w) (record { count = getD w 0 0; regions = eachAt regionAt regionLength w 1 mostRegions }) (blankMap 0)
 
 abbrev pub regionWords : Region → List ℕ
 regionWords r =
@@ -47,7 +47,7 @@ regionWords r =
 unfoldable pub mapWords : RegionMap → List ℕ
 mapWords m = m .count ∷ eachWords regionWords (m .regions)
 
--- the six words of a range
+-- the words of a range
 abbrev pub rangeAt : List ℕ → ℕ → FlatRange
 rangeAt w at =
     record {
@@ -61,11 +61,11 @@ rangeAt w at =
 
 -- what words of another number stand for: a view that 27 refuses, 'over 256'
 abbrev pub noView : FlatView
-noView = record { count = 257; ranges = replicate 256 noRange }
+noView = record { count = mostRanges + 1; ranges = replicate mostRanges noRange }
 
--- a view of 1,537 words: the count, and 256 ranges of 6
+-- a view: the count, and the ranges
 unfoldable pub viewOf : List ℕ → FlatView
-viewOf w = cond (eqb (length w) 1537) (record { count = getD w 0 0; ranges = eachAt rangeAt 6 w 1 256 }) noView
+viewOf w = cond (isView w) (record { count = getD w 0 0; ranges = eachAt rangeAt rangeLength w 1 mostRanges }) noView
 
 abbrev pub rangeWords : FlatRange → List ℕ
 rangeWords r = r .first .0 ∷ r .last .0 ∷ r .region ∷ r .offset .0 ∷ r .kind ∷ r .base ∷ []

@@ -2,5 +2,6 @@
 // accessors rely on the facts that they require, which every caller proves: no entry point stands here.
 pub mod map;
 pub mod numbers;
+pub mod refusal;
 pub mod view;
 pub mod words;

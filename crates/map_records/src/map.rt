@@ -1,7 +1,7 @@
 // The records of a region map. Every field is a plain number as it stands on a sheet, so that a given
 // map can be wrong in each way that document 01 refuses.
 ghost use mathlib.Core.Path.{_≡_};
-ghost use Rattle.map_records.specs.Map.{has as hasField, valueOf, withValue};
+ghost use Rattle.map_records.specs.Map.{isKind, hasMemory, has as hasField, valueOf, withValue};
 
 // Document 01's guest address.
 pub struct GuestAddress(pub u64);
@@ -19,6 +19,20 @@ pub const MMIO: u64 = 2;
 pub const ALIAS: u64 = 3;
 
 pub const MANAGED: u64 = 4;
+
+// Is it one of them? 4 is given from the next number on.
+pub fn is_kind(kind: u64) -> bool
+    ensures { λ r. ⌜ r ≡ isKind kind ⌝ }
+{
+    kind <= MANAGED
+}
+
+// Do the bytes of a region of this kind lie in guest memory?
+pub fn has_memory(kind: u64) -> bool
+    ensures { λ r. ⌜ r ≡ hasMemory kind ⌝ }
+{
+    (kind == RAM) | (kind == MANAGED)
+}
 
 // The most regions of a map.
 pub const REGIONS: usize = 32;
@@ -40,7 +54,7 @@ pub struct Region {
 // as words with its owner, and only definitions speak of this record.
 pub struct RegionMap {
     pub count: usize,
-    pub regions: [Region; 32],
+    pub regions: [Region; REGIONS],
 }
 
 // The fields of a region besides its kind.
@@ -60,7 +74,7 @@ pub fn has(kind: u64, field: Field) -> bool
     ensures { λ r. ⌜ r ≡ hasField kind field ⌝ }
 {
     match field {
-        Field::MemoryStart => (kind == RAM) | (kind == MANAGED),
+        Field::MemoryStart => has_memory(kind),
         Field::Port => kind == MMIO,
         Field::Target | Field::AliasOffset => kind == ALIAS,
         _ => true,

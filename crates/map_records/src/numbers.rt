@@ -6,6 +6,9 @@ ghost use lib.Dec.{leb};
 // Where addresses, offsets and sizes end: 2^48.
 pub const LIMIT: u64 = 281474976710656;
 
+// What a priority field and a port are at most.
+pub const MOST_IN_BYTE: u64 = 255;
+
 // The smaller of two.
 pub fn least(a: u64, b: u64) -> u64
     ensures { λ r. ⌜ r ≡ min a b ⌝ }

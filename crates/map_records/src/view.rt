@@ -2,6 +2,9 @@
 use crate::map::GuestAddress;
 use crate::map::RegionOffset;
 
+// The most ranges of a view.
+pub const RANGES: usize = 256;
+
 // Document 01's run: addresses first to last lead to a region, from an offset on. `base` is the
 // region's memory start or port.
 pub struct FlatRange {
@@ -17,5 +20,5 @@ pub struct FlatRange {
 // definitions speak of this record.
 pub struct FlatView {
     pub count: usize,
-    pub ranges: [FlatRange; 256],
+    pub ranges: [FlatRange; RANGES],
 }

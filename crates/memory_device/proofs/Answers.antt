@@ -86,27 +86,27 @@ value-back d = refl
 pub record-injective : (a b : value.MemoryDevice) → recordOf a ≡ recordOf b → a ≡ b
 record-injective = injective recordOf valueOf value-back
 
-changedOf : record-of.Outcome → Changed
+changedOf : record-of.HostOutcome → Changed
 changedOf o = record { answer = hostOf (o .reply); device = valueOf (o .device) }
 
-changed-back : (c : Changed) → changedOf (record-of.outcomeOf c) ≡ c
+changed-back : (c : Changed) → changedOf (record-of.hostOutcomeOf c) ≡ c
 unfolding changedOf valueOf
 changed-back c = ap (λ a. record { answer = a; device = c .device }) (host-back (c .answer))
 
-pub changed-injective : (a b : Changed) → record-of.outcomeOf a ≡ record-of.outcomeOf b → a ≡ b
-changed-injective = injective record-of.outcomeOf changedOf changed-back
+pub changed-injective : (a b : Changed) → record-of.hostOutcomeOf a ≡ record-of.hostOutcomeOf b → a ≡ b
+changed-injective = injective record-of.hostOutcomeOf changedOf changed-back
 
-carriedOf : carry.Outcome → Carried
+carriedOf : carry.RequestOutcome → Carried
 carriedOf o = record { answer = hostOf (o .reply); response = o .response; device = valueOf (o .device) }
 
-carried-back : (c : Carried) → carriedOf (request-of.outcomeOf c) ≡ c
+carried-back : (c : Carried) → carriedOf (request-of.requestOutcomeOf c) ≡ c
 unfolding carriedOf valueOf
 carried-back c = ap (λ a. record { answer = a; response = c .response; device = c .device }) (host-back (c .answer))
 
-pub carried-injective : (a b : Carried) → request-of.outcomeOf a ≡ request-of.outcomeOf b → a ≡ b
-carried-injective = injective request-of.outcomeOf carriedOf carried-back
+pub carried-injective : (a b : Carried) → request-of.requestOutcomeOf a ≡ request-of.requestOutcomeOf b → a ≡ b
+carried-injective = injective request-of.requestOutcomeOf carriedOf carried-back
 
-configurationOf : byte.Read → Configuration
+configurationOf : byte.ConfigurationRead → Configuration
 configurationOf r = record { answer = hostOf (r .reply); bytes = r .bytes }
 
 configuration-back : (c : Configuration) → configurationOf (byte.readOf c) ≡ c
@@ -116,12 +116,12 @@ configuration-back c = ap (λ a. record { answer = a; bytes = c .bytes }) (host-
 pub configuration-injective : (a b : Configuration) → byte.readOf a ≡ byte.readOf b → a ≡ b
 configuration-injective = injective byte.readOf configurationOf configuration-back
 
-setOf : record-of.Outcome → SetUp
+setOf : record-of.HostOutcome → SetUp
 setOf o = record { answer = setUpOf (o .reply); device = valueOf (o .device) }
 
-set-back : (s : SetUp) → setOf (set-up-of.outcomeOf s) ≡ s
+set-back : (s : SetUp) → setOf (set-up-of.setUpOutcomeOf s) ≡ s
 unfolding setOf valueOf
 set-back s = ap (λ a. record { answer = a; device = s .device }) (set-up-back (s .answer))
 
-pub set-up-injective : (a b : SetUp) → set-up-of.outcomeOf a ≡ set-up-of.outcomeOf b → a ≡ b
-set-up-injective = injective set-up-of.outcomeOf setOf set-back
+pub set-up-injective : (a b : SetUp) → set-up-of.setUpOutcomeOf a ≡ set-up-of.setUpOutcomeOf b → a ≡ b
+set-up-injective = injective set-up-of.setUpOutcomeOf setOf set-back

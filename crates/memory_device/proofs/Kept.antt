@@ -14,8 +14,8 @@ use Rattle.device_words.specs.Request.{requestOf, carriedOut}
 use Rattle.device_words.proofs.TableLaws.{zero-bit}
 use Rattle.device_words.proofs.RuleLaws.{device-valid, blocks-mono}
 use Rattle.device_words.proofs.Kept.{setup-of, device-ok, inside-run, run-set, run-cleared, change-kept}
-use Rattle.memory_device.specs.Record.{Outcome}
-use Rattle.memory_device.specs.Host.{refusal, done, sizeFault, withRequested, resized, pinFault, pinned, unpinned, wasReset}
+use Rattle.memory_device.specs.Record.{HostOutcome}
+use Rattle.memory_device.specs.Host.{hostRefusal, done, sizeFault, withRequested, resized, pinFault, pinBlock, unpinBlock, systemReset}
 use Rattle.memory_device.specs.Request.{carriedInto, carried}
 use Rattle.memory_device.specs.SetUp.{freshDevice}
 use Rattle.memory_device.specs.declared.setup.DeviceValues.{DeviceValues}
@@ -48,20 +48,20 @@ resized-setup d size h whole fits =
         go (no h) = let e : max a c ≡ a = omega arith in rw e p
 
 -- the host's calls
-pub reset-kept : (d : MemoryDevice) → deviceOk d ≡ true → deviceOk (wasReset d .device) ≡ true
-unfolding wasReset
+pub reset-kept : (d : MemoryDevice) → deviceOk d ≡ true → deviceOk (systemReset d .device) ≡ true
+unfolding systemReset
 reset-kept d h = rw h (device-ok (withTables d noBlocks noBlocks) (setup-of d h) (λ b l e. absurd (never (sym e ∙ zero-bit b))) (λ b l e. absurd (never (sym e ∙ zero-bit b))))
 
 -- of two outcomes
-either : (x : Bool) (a b : Outcome) → (x ≡ true → deviceOk (a .device) ≡ true) → (x ≡ false → deviceOk (b .device) ≡ true) → deviceOk (cond x a b .device) ≡ true
+either : (x : Bool) (a b : HostOutcome) → (x ≡ true → deviceOk (a .device) ≡ true) → (x ≡ false → deviceOk (b .device) ≡ true) → deviceOk (cond x a b .device) ≡ true
 either true a b f g = f refl
 either false a b f g = g refl
 
-pub pin-kept : (d : MemoryDevice) (b : ℕ) → deviceOk d ≡ true → deviceOk (pinned d b .device) ≡ true
-unfolding pinned
+pub pin-kept : (d : MemoryDevice) (b : ℕ) → deviceOk d ≡ true → deviceOk (pinBlock d b .device) ≡ true
+unfolding pinBlock
 pin-kept d b h =
     rw h
-    (either (pinFault d b) (refusal 15 d) (done (withPins d (withPin (d .pinned) b true))) (λ _. h)
+    (either (pinFault d b) (hostRefusal 15 d) (done (withPins d (withPin (d .pinned) b true))) (λ _. h)
     (λ e.
     let plugged : bitAt (d .plugged) b ≡ true =
     not-false (bitAt (d .plugged) b)
@@ -71,18 +71,18 @@ pin-kept d b h =
     (λ c l s. run-set (d .pinned) b 1 c l s (bitAt (d .plugged) c ≡ true)
     (λ w. let z = inside-run b 1 c w in subst (λ (x : ℕ). bitAt (d .plugged) x ≡ true) (let y : b ≡ c = omega arith in y) plugged) (device-valid d h .held c l))))
 
-pub unpin-kept : (d : MemoryDevice) (b : ℕ) → deviceOk d ≡ true → deviceOk (unpinned d b .device) ≡ true
-unfolding unpinned
+pub unpin-kept : (d : MemoryDevice) (b : ℕ) → deviceOk d ≡ true → deviceOk (unpinBlock d b .device) ≡ true
+unfolding unpinBlock
 unpin-kept d b h =
     rw h
-    (either (not (isPinned d b)) (refusal 15 d) (done (withPins d (withPin (d .pinned) b false))) (λ _. h)
+    (either (not (isPinned d b)) (hostRefusal 15 d) (done (withPins d (withPin (d .pinned) b false))) (λ _. h)
     (λ e. device-ok (withPins d (withPin (d .pinned) b false)) (setup-of d h) (device-valid d h .inside) (λ c l s. device-valid d h .held c l (run-cleared (d .pinned) b 1 c l s))))
 
 pub resize-kept : (d : MemoryDevice) (size : ℕ) → deviceOk d ≡ true → deviceOk (resized d size .device) ≡ true
 unfolding resized
 resize-kept d size h =
     rw h
-    (either (sizeFault d size) (refusal 14 d) (done (withRequested d size)) (λ _. h)
+    (either (sizeFault d size) (hostRefusal 14 d) (done (withRequested d size)) (λ _. h)
     (λ e.
     let v = device-valid d h in
     let b = d .«block_size» in

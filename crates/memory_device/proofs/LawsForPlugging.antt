@@ -28,11 +28,11 @@ use lib.ListN.{length, getD}
 use Rattle.map_records.proofs.Order.{eq-or-not}
 use Rattle.map_check.specs.Reply.{accepted, passes}
 use Rattle.map_check.proofs.Bools.{never}
-use Rattle.device_words.specs.Bytes.{le, numberBy, number, responseBytes}
+use Rattle.device_words.specs.Bytes.{le, numberBy, leNumber, responseBytes}
 use Rattle.device_words.specs.Table.{IsTable}
 use Rattle.device_words.specs.Device.{MemoryDevice, withPlugged, deviceOk}
-use Rattle.device_words.specs.Request.{Outcome, plug, unplug, requestOf, bytesOf, forRun, plugRun, unplugRun, typeOf, stateOf, inRange, alreadyPlugged, overRequested, answered, isAck, acknowledged, changedBy, carriedOut}
-use Rattle.device_words.specs.Words.{deviceOf, deviceWords}
+use Rattle.device_words.specs.Request.{RequestOutcome, plugType, unplugType, requestOf, bytesOf, forRun, plugRun, unplugRun, typeOf, stateOf, inRange, alreadyPlugged, overRequested, answered, isAck, tableAfterAck, changedBy, carriedOut}
+use Rattle.device_words.specs.Words.{deviceOf, deviceWords, deviceLength}
 use Rattle.device_words.specs.declared.request.Request.{Request}
 use Rattle.device_words.specs.declared.request.Response.the-variants as response
 use Rattle.device_words.proofs.ByteLaws.{request-low}
@@ -53,14 +53,14 @@ unfolding carriedInto
 refused d s h = rw h (λ e. never (sym e))
 
 -- the outcome of an acknowledged request
-abbrev acked : MemoryDevice → Outcome
+abbrev acked : MemoryDevice → RequestOutcome
 acked d = record { reply = accepted; response = responseBytes 0 0; device = d }
 
 acked-is : (d : MemoryDevice) → Acknowledged (acked d)
 unfolding numberBy responseBytes le
 acked-is d = refl
 
-carried-acked : (d : MemoryDevice) (r : Request) → answered d r ≡ response.Ack → carriedOut d r ≡ acked (withPlugged d (acknowledged d r))
+carried-acked : (d : MemoryDevice) (r : Request) → answered d r ≡ response.Ack → carriedOut d r ≡ acked (withPlugged d (tableAfterAck d r))
 unfolding changedBy
 carried-acked d r e = rw e
 
@@ -70,7 +70,7 @@ module _ (d : MemoryDevice) (h : deviceOk d ≡ true) (a n : ℕ) (s : List ℕ)
   unfolding answered numberBy responseBytes le
   plugs-of k = ack-plugs d a n (go (inRange d (plugRun a n)) (alreadyPlugged d (plugRun a n)) (overRequested d (plugRun a n)) (rw (on-valid d s (plugRun a n) h e) at k))
     where
-      go : (x y z : Bool) → eqb (number (responseBytes (typeOf (byChecks x y z)) (stateOf (byChecks x y z))) 0 2) 0 ≡ true → isAck (byChecks x y z) ≡ true
+      go : (x y z : Bool) → eqb (leNumber (responseBytes (typeOf (byChecks x y z)) (stateOf (byChecks x y z))) 0 2) 0 ≡ true → isAck (byChecks x y z) ≡ true
       go true true z q = absurd (never (sym q))
       go true false true q = absurd (never (sym q))
       go true false false q = refl
@@ -92,7 +92,7 @@ module _ (d : MemoryDevice) (h : deviceOk d ≡ true) (a n m : ℕ) (s t u : Lis
     first = of-plugs d h a n s e p
 
     next-valid : deviceOk (afterPlug d a n) ≡ true
-    next-valid = sym (ap (λ (o : Outcome). deviceOk (o .device)) first) ∙ carry-kept d s h
+    next-valid = sym (ap (λ (o : RequestOutcome). deviceOk (o .device)) first) ∙ carry-kept d s h
 
     next-asks : requestOf t ≡ plugRun (a + n * d .«block_size») m
     next-asks = f ∙ ap (λ (x : ℕ). plugRun x m) (mod-eq-of-lt (run-end d a n h p))
@@ -120,7 +120,7 @@ module _ (d : MemoryDevice) (h : deviceOk d ≡ true) (a n m : ℕ) (s t u : Lis
         device = λ k.
             let q = plugs-of d h a (n + m) u g k in
             let p = plugs-first d a n m v i q in
-            ap (λ (o : Outcome). o .device) (second p (plugs-second d a n m v j p q)) ∙ leaves-one d a n m v (p .above) ∙ sym (ap (λ (o : Outcome). o .device) (one q));
+            ap (λ (o : RequestOutcome). o .device) (second p (plugs-second d a n m v j p q)) ∙ leaves-one d a n m v (p .above) ∙ sym (ap (λ (o : RequestOutcome). o .device) (one q));
       }
 
 -- ---- the first law
@@ -158,7 +158,7 @@ undone d a n h w s t e f p =
     let v = device-valid d h in
     let plugged = of-plugs d h a n s e p in
     rw plugged
-    (on-valid (afterPlug d a n) t (unplugRun a n) (sym (ap (λ (o : Outcome). deviceOk (o .device)) plugged) ∙ carry-kept d s h) f
+    (on-valid (afterPlug d a n) t (unplugRun a n) (sym (ap (λ (o : RequestOutcome). deviceOk (o .device)) plugged) ∙ carry-kept d s h) f
     ∙ carried-acked (afterPlug d a n) (unplugRun a n) (unplug-ack d a n v p) ∙ ap acked (unplug-back d a n v p w))
 
 pub plug-undone : (d : MemoryDevice) (a n : ℕ) → IsTable (d .plugged) → (s t : List ℕ) → requestOf s ≡ plugRun a n → requestOf t ≡ unplugRun a n
@@ -167,7 +167,7 @@ plug-undone d a n w s t e f k = go (deviceOk d) refl
   where
     go : (x : Bool) → deviceOk d ≡ x → GivesBack Acknowledged d (carried (carried d s .device) t)
     go false h = absurd (refused d s h k)
-    go true h = let o = undone d a n h w s t e f (plugs-of d h a n s e k) in record { answer = rw o (acked-is d); device = ap (λ (x : Outcome). x .device) o }
+    go true h = let o = undone d a n h w s t e f (plugs-of d h a n s e k) in record { answer = rw o (acked-is d); device = ap (λ (x : RequestOutcome). x .device) o }
 
 -- of a device in a host's words, of 64 bits each: they are as they were
 pub plug-undone-words : (w : List ℕ) (a n : ℕ) → ((i : ℕ) → getD w i 0 < 2 ^ 64) → (s t : List ℕ) → requestOf s ≡ plugRun a n → requestOf t ≡ unplugRun a n
@@ -177,7 +177,7 @@ plug-undone-words w a n h s t e f k =
     let law = plug-undone (deviceOf w) a n (words-table w h) s t e f k in (
       law .answer,
       ap deviceWords (law .device) ∙ ⊎-elim (words-of w)
-          (λ none. absurd (refused (deviceOf w) s (ap deviceOk (device-none w none) ∙ none-refused) k)) (eq-or-not (length w) 37),
+          (λ none. absurd (refused (deviceOf w) s (ap deviceOk (device-none w none) ∙ none-refused) k)) (eq-or-not (length w) deviceLength),
     )
 
 -- ---- both laws, by the ten bytes that a guest gets
@@ -185,11 +185,11 @@ plug-undone-words w a n h s t e f k =
 -- ten zeros say ACK, and the ACK of a PLUG is ten zeros
 seen-acked : (d : MemoryDevice) (s : List ℕ) → deviceOk d ≡ true → AckSeen (carried d s) → Acknowledged (carried d s)
 seen-acked d s h k =
-    ap (λ (o : Outcome). passes (o .reply) && eqb (number (carried d s .response) 0 2) 0) (on-valid d s (requestOf s) h refl)
-    ∙ ap (λ (x : List ℕ). eqb (number x 0 2) 0) k ∙ acked-is d
+    ap (λ (o : RequestOutcome). passes (o .reply) && eqb (leNumber (carried d s .response) 0 2) 0) (on-valid d s (requestOf s) h refl)
+    ∙ ap (λ (x : List ℕ). eqb (leNumber x 0 2) 0) k ∙ acked-is d
 
 acked-seen : (d : MemoryDevice) (a n : ℕ) (s : List ℕ) → deviceOk d ≡ true → requestOf s ≡ plugRun a n → Acknowledged (carried d s) → AckSeen (carried d s)
-acked-seen d a n s h e k = ap (λ (o : Outcome). o .response) (of-plugs d h a n s e (plugs-of d h a n s e k))
+acked-seen d a n s h e k = ap (λ (o : RequestOutcome). o .response) (of-plugs d h a n s e (plugs-of d h a n s e k))
 
 pub plug-in-two-seen : (d : MemoryDevice) (a n m : ℕ) → deviceOk d ≡ true → 1 ≤ n → 1 ≤ m → (s t u : List ℕ)
     → requestOf s ≡ plugRun a n → requestOf t ≡ plugRun (behind d a n) m → requestOf u ≡ plugRun a (n + m)
@@ -209,7 +209,7 @@ pub plug-undone-seen : (d : MemoryDevice) (a n : ℕ) → deviceOk d ≡ true �
     → AckSeen (carried d s) → GivesBack AckSeen d (carried (carried d s .device) t)
 plug-undone-seen d a n h w s t e f k =
     let o = undone d a n h w s t e f (plugs-of d h a n s e (seen-acked d s h k)) in
-    record { answer = ap (λ (x : Outcome). x .response) o; device = ap (λ (x : Outcome). x .device) o }
+    record { answer = ap (λ (x : RequestOutcome). x .response) o; device = ap (λ (x : RequestOutcome). x .device) o }
 
 -- ---- both laws, by the 24 bytes that a guest writes, padding 0, and the ten that it gets
 
@@ -227,9 +227,9 @@ pub plug-in-two-sent : (d : MemoryDevice) (a n m : ℕ) → deviceOk d ≡ true 
     (carried d (bytesOf (plugRun a (n + m))))
 plug-in-two-sent d a n m h q i j k =
     plug-in-two-seen d a n m h i j (bytesOf (plugRun a n)) (bytesOf (plugRun (a + n * d .«block_size») m)) (bytesOf (plugRun a (n + m)))
-    (run-asks-whole plug a n (omega arith) q (omega arith)) (run-asks plug (a + n * d .«block_size») m (omega arith) (omega arith)) (run-asks-whole plug a (n + m) (omega arith) q k)
+    (run-asks-whole plugType a n (omega arith) q (omega arith)) (run-asks plugType (a + n * d .«block_size») m (omega arith) (omega arith)) (run-asks-whole plugType a (n + m) (omega arith) q k)
 
 pub plug-undone-sent : (d : MemoryDevice) (a n : ℕ) → deviceOk d ≡ true → IsTable (d .plugged) → a < 2 ^ 64 → n ≤ 65535
     → AckSeen (carried d (bytesOf (plugRun a n))) → GivesBack AckSeen d (carried (carried d (bytesOf (plugRun a n)) .device) (bytesOf (unplugRun a n)))
 plug-undone-sent d a n h w q k =
-    plug-undone-seen d a n h w (bytesOf (plugRun a n)) (bytesOf (unplugRun a n)) (run-asks-whole plug a n (omega arith) q k) (run-asks-whole unplug a n (omega arith) q k)
+    plug-undone-seen d a n h w (bytesOf (plugRun a n)) (bytesOf (unplugRun a n)) (run-asks-whole plugType a n (omega arith) q k) (run-asks-whole unplugType a n (omega arith) q k)

@@ -12,40 +12,40 @@ use Rattle.map_check.specs.Reply.{Reply, plain, passes}
 use Rattle.map_check.proofs.Bools.{and-off}
 use Rattle.device_words.specs.Table.{bitAt, within}
 use Rattle.device_words.specs.Device.{MemoryDevice, isPinned, noBlocks, withPlugged, withPins, withPin, fresh, deviceOk}
-use Rattle.device_words.specs.Contracts.{Sound, Responds}
-use Rattle.device_words.specs.Request.{plug, unplug, unplugAll, blockOf, withRun, acknowledged, answered, isAck, changedBy, requestOf, carriedOut, Outcome as Carried}
-use Rattle.device_words.specs.Words.{isDevice, deviceAt, deviceOf, deviceWords}
+use Rattle.device_words.specs.Contracts.{ValidWords, Responds}
+use Rattle.device_words.specs.Request.{plugType, unplugType, unplugAllType, blockOf, withRun, tableAfterAck, answered, isAck, changedBy, requestOf, carriedOut, RequestOutcome as Carried}
+use Rattle.device_words.specs.Words.{isDevice, deviceAt, deviceOf, deviceWords, deviceLength}
 use Rattle.device_words.specs.declared.request.Request.{Request}
 use Rattle.device_words.specs.declared.request.Response.{Response}
 use Rattle.device_words.proofs.TableLaws.{table-length}
 use Rattle.device_words.proofs.DeviceWords.{device-at, device-none, halves, record-back, plugged-length, pins-length, ok-length, ok-device, not-device}
 use Rattle.device_words.proofs.RuleLaws.{device-valid}
-use Rattle.memory_device.specs.Record.{Outcome, hostReply}
-use Rattle.memory_device.specs.Host.{refusal, done, ifOk, withRequested, configurationOf, Read, configuredInto}
+use Rattle.memory_device.specs.Record.{HostOutcome, hostReply}
+use Rattle.memory_device.specs.Host.{hostRefusal, done, ifOk, withRequested, configurationOf, ConfigurationRead, configuredInto}
 use Rattle.memory_device.specs.Request.{carriedInto}
-use Rattle.memory_device.specs.Lent.{leaves, Left, Reads, Carries}
+use Rattle.memory_device.specs.Lent.{wordsLeft, LeavesDevice, ReadsConfiguration, Carries}
 use Rattle.memory_device.specs.declared.device.HostAnswer.{HostAnswer}
 use Rattle.memory_device.specs.declared.device.HostAnswer.the-variants.{Done, Record}
 
 -- ---- a call on words: 27, then a fault of its own, then a change
 module _ (w : List ℕ) (x : Bool) (e : x ≡ (isDevice w && deviceOk (deviceOf w))) where
-  pub left-27 : (o : Outcome) → x ≡ false → Left (ifOk (deviceOf w) o) w Record w
+  pub left-27 : (o : HostOutcome) → x ≡ false → LeavesDevice (ifOk (deviceOf w) o) w Record w
   left-27 o h = rw (not-device w x e h) (record { reply = refl; words = refl })
 
   module _ (h : x ≡ true) where
-    pub sound-length : length w ≡ 37
+    pub sound-length : length w ≡ deviceLength
     sound-length = ok-length w x e h
 
-    pub sound : Sound w
+    pub sound : ValidWords w
     sound = record { size = sound-length; valid = rw (device-at w sound-length) at (device-valid (deviceOf w) (ok-device w x e h)) }
 
     module _ (fault : MemoryDevice → Bool) (k : ℕ) (next : MemoryDevice → MemoryDevice) where
       pub left-fault : (a : HostAnswer) → hostReply a ≡ plain k → fault (deviceAt w) ≡ true
-          → Left (ifOk (deviceOf w) (cond (fault (deviceOf w)) (refusal k (deviceOf w)) (done (next (deviceOf w))))) w a w
+          → LeavesDevice (ifOk (deviceOf w) (cond (fault (deviceOf w)) (hostRefusal k (deviceOf w)) (done (next (deviceOf w))))) w a w
       left-fault a r f = rw (ok-device w x e h, ap fault (device-at w sound-length) ∙ f) (record { reply = r; words = refl })
 
       pub left-done : (w′ : List ℕ) → fault (deviceAt w) ≡ false → w′ ≡ deviceWords (next (deviceAt w))
-          → Left (ifOk (deviceOf w) (cond (fault (deviceOf w)) (refusal k (deviceOf w)) (done (next (deviceOf w))))) w Done w′
+          → LeavesDevice (ifOk (deviceOf w) (cond (fault (deviceOf w)) (hostRefusal k (deviceOf w)) (done (next (deviceOf w))))) w Done w′
       left-done w′ f p =
           rw (ok-device w x e h, ap fault (device-at w sound-length) ∙ f)
           (record { reply = refl; words = p ∙ ap (λ (d : MemoryDevice). deviceWords (next d)) (sym (device-at w sound-length)) })
@@ -62,7 +62,7 @@ pin-test false false true = refl
 pin-test false false false = refl
 
 -- ---- the words that the changes leave
-pub requested-stored : (w : List ℕ) (usable size : ℕ) → length w ≡ 37 → usable ≡ max (deviceAt w .«usable_size») size
+pub requested-stored : (w : List ℕ) (usable size : ℕ) → length w ≡ deviceLength → usable ≡ max (deviceAt w .«usable_size») size
     → set (set w 3 usable) 4 size ≡ deviceWords (withRequested (deviceAt w) size)
 unfolding deviceWords
 requested-stored [] usable size l p = absurd (omega arith)
@@ -79,18 +79,18 @@ pub record Whole (d : MemoryDevice) : Type 0 where
   pub pins : length (d .pinned) ≡ 16
 
 pub whole-words : (w : List ℕ) → Whole (deviceOf w)
-whole-words w = go (eqb (length w) 37) refl
+whole-words w = go (eqb (length w) deviceLength) refl
   where
-    go : (x : Bool) → eqb (length w) 37 ≡ x → Whole (deviceOf w)
-    go true p = let l = eqb-true (length w) 37 p in rw (device-at w l) (record { plugged = plugged-length w l; pins = pins-length w l })
-    go false p = rw (device-none w (eqb-false (length w) 37 p)) (record { plugged = refl; pins = refl })
+    go : (x : Bool) → eqb (length w) deviceLength ≡ x → Whole (deviceOf w)
+    go true p = let l = eqb-true (length w) deviceLength p in rw (device-at w l) (record { plugged = plugged-length w l; pins = pins-length w l })
+    go false p = rw (device-none w (eqb-false (length w) deviceLength p)) (record { plugged = refl; pins = refl })
 
 -- ---- a call by value: the words of the record, the call on them, and the record read back
 -- a refusal gives the state back, and a next state has whole tables
 abbrev Fair : MemoryDevice → Reply → MemoryDevice → Type 0
 Fair d reply next = ((passes reply ≡ false) × (next ≡ d)) ⊎ ((passes reply ≡ true) × Whole next)
 
-read-back : (d : MemoryDevice) (reply : Reply) (next : MemoryDevice) (w w′ : List ℕ) → deviceOf w ≡ d → w′ ≡ leaves reply next w → Fair d reply next → deviceOf w′ ≡ next
+read-back : (d : MemoryDevice) (reply : Reply) (next : MemoryDevice) (w w′ : List ℕ) → deviceOf w ≡ d → w′ ≡ wordsLeft reply next w → Fair d reply next → deviceOf w′ ≡ next
 read-back d reply next w w′ e p f =
     ⊎-elim
     (λ (r : (passes reply ≡ false) × (next ≡ d)). ap deviceOf (p ∙ ap (λ (x : Bool). cond x (deviceWords next) w) (r .0)) ∙ e ∙ sym (r .1))
@@ -103,19 +103,19 @@ module _ (d : MemoryDevice) (w w′ : List ℕ) (a : HostAnswer) (m : MemoryDevi
 
   -- what judges 27, then a fault, then changes: each next state is one of whole tables, where the given one has them
   pub by-value : (fault : MemoryDevice → Bool) (k : ℕ) (next : MemoryDevice → MemoryDevice) → (Whole d → Whole (next d))
-      → Left (ifOk (deviceOf w) (cond (fault (deviceOf w)) (refusal k (deviceOf w)) (done (next (deviceOf w))))) w a w′
-      → _≡_ {A = Outcome} (record { reply = hostReply a; device = m }) (ifOk d (cond (fault d) (refusal k d) (done (next d))))
+      → LeavesDevice (ifOk (deviceOf w) (cond (fault (deviceOf w)) (hostRefusal k (deviceOf w)) (done (next (deviceOf w))))) w a w′
+      → _≡_ {A = HostOutcome} (record { reply = hostReply a; device = m }) (ifOk d (cond (fault d) (hostRefusal k d) (done (next d))))
   by-value fault k next f l =
-      let o = ifOk d (cond (fault d) (refusal k d) (done (next d))) in
-      let h : Left o w a w′ = rw e at l in
+      let o = ifOk d (cond (fault d) (hostRefusal k d) (done (next d))) in
+      let h : LeavesDevice o w a w′ = rw e at l in
       both (h .reply) (g ∙ read-back d (o .reply) (o .device) w w′ e (h .words) (fair (deviceOk d) (fault d)))
     where
-      fair : (x y : Bool) → Fair d (cond x (cond y (refusal k d) (done (next d))) (refusal 27 d) .reply) (cond x (cond y (refusal k d) (done (next d))) (refusal 27 d) .device)
+      fair : (x y : Bool) → Fair d (cond x (cond y (hostRefusal k d) (done (next d))) (hostRefusal 27 d) .reply) (cond x (cond y (hostRefusal k d) (done (next d))) (hostRefusal 27 d) .device)
       fair true true = inl (refl, refl)
       fair true false = inr (refl, f whole)
       fair false y = inl (refl, refl)
 
-      both : {r s : Reply} {x y : MemoryDevice} → r ≡ s → x ≡ y → _≡_ {A = Outcome} (record { reply = r; device = x }) (record { reply = s; device = y })
+      both : {r s : Reply} {x y : MemoryDevice} → r ≡ s → x ≡ y → _≡_ {A = HostOutcome} (record { reply = r; device = x }) (record { reply = s; device = y })
       both p q = λ i. record { reply = p i; device = q i }
 
 -- the tables of the next states
@@ -138,8 +138,8 @@ whole-changed d r x h = go (isAck x)
     ack false false true = refl
     ack false false false = h .plugged
 
-    go : (y : Bool) → Whole (cond y (withPlugged d (acknowledged d r)) d)
-    go true = record { plugged = ack (eqb (r .kind) plug) (eqb (r .kind) unplug) (eqb (r .kind) unplugAll); pins = h .pins }
+    go : (y : Bool) → Whole (cond y (withPlugged d (tableAfterAck d r)) d)
+    go true = record { plugged = ack (eqb (r .kind) plugType) (eqb (r .kind) unplugType) (eqb (r .kind) unplugAllType); pins = h .pins }
     go false = h
 
 -- ---- a request
@@ -181,26 +181,26 @@ carried-value d w w′ s out out′ a m e g l =
 -- ---- the configuration
 module _ (w out : List ℕ) (x : Bool) (e : x ≡ (isDevice w && deviceOk (deviceOf w))) where
   pub configures : length out ≡ 56 → x ≡ true → (out′ : List ℕ) → out′ ≡ configurationOf (deviceAt w)
-      → Reads (configuredInto (deviceOf w) out) Done out′
+      → ReadsConfiguration (configuredInto (deviceOf w) out) Done out′
   unfolding configuredInto
   configures l h out′ p =
       rw (eq-eqb (length out) 56 l, ok-device w x e h) (refl, p ∙ ap configurationOf (sym (device-at w (ok-length w x e h))))
 
-  pub configures-27 : x ≡ false → Reads (configuredInto (deviceOf w) out) Record out
+  pub configures-27 : x ≡ false → ReadsConfiguration (configuredInto (deviceOf w) out) Record out
   unfolding configuredInto
   configures-27 h = rw (not-device w x e h, and-off (eqb (length out) 56)) (refl, refl)
 
-pub configures-length : (w out : List ℕ) → (length out ≡ 56 → ⊥) → Reads (configuredInto (deviceOf w) out) Record out
+pub configures-length : (w out : List ℕ) → (length out ≡ 56 → ⊥) → ReadsConfiguration (configuredInto (deviceOf w) out) Record out
 unfolding configuredInto
 configures-length w out n = rw (ne-eqb (length out) 56 n) (refl, refl)
 
 pub configured-value : (d : MemoryDevice) (w out out′ : List ℕ) (a : HostAnswer) → deviceOf w ≡ d
-    → Reads (configuredInto (deviceOf w) out) a out′
-    → _≡_ {A = Read} (record { reply = hostReply a; bytes = out′ }) (configuredInto d out)
+    → ReadsConfiguration (configuredInto (deviceOf w) out) a out′
+    → _≡_ {A = ConfigurationRead} (record { reply = hostReply a; bytes = out′ }) (configuredInto d out)
 configured-value d w out out′ a e l =
     let o = configuredInto d out in
-    let h : Reads o a out′ = rw e at l in
+    let h : ReadsConfiguration o a out′ = rw e at l in
     parts (h .0) (h .1)
   where
-    parts : {r q : Reply} {b c : List ℕ} → r ≡ q → b ≡ c → _≡_ {A = Read} (record { reply = r; bytes = b }) (record { reply = q; bytes = c })
+    parts : {r q : Reply} {b c : List ℕ} → r ≡ q → b ≡ c → _≡_ {A = ConfigurationRead} (record { reply = r; bytes = b }) (record { reply = q; bytes = c })
     parts p q = λ i. record { reply = p i; bytes = q i }

@@ -5,21 +5,21 @@ use mathlib.Core.List.{List, [], _∷_}
 use Prim.Native.Nat.{ℕ, _<_}
 use lib.Dec.{eqb, ltb}
 use Rattle.map_check.proofs.Bools.{never}
-use Rattle.device_words.specs.Bytes.{le, number, numberBy, responseBytes}
+use Rattle.device_words.specs.Bytes.{le, leNumber, numberBy, responseBytes}
 use Rattle.device_words.specs.Table.{bitAt, within}
 use Rattle.device_words.specs.Device.{MemoryDevice, isPinned, anyPinned, noBlocks, withPins, withPin, deviceOk}
-use Rattle.device_words.specs.Request.{requestOf, typeOf, stateOf, blockOf, inRange, heldOf, alreadyPlugged, overRequested, plugAnswer, unplugAnswer, unplugAllAnswer, stateAnswer, ranged, answered, withRun, acknowledged, changedBy}
+use Rattle.device_words.specs.Request.{requestOf, typeOf, stateOf, blockOf, inRange, heldOf, alreadyPlugged, overRequested, plugAnswer, unplugAnswer, unplugAllAnswer, stateAnswer, ranged, answered, withRun, tableAfterAck, changedBy}
 use Rattle.device_words.specs.declared.request.Request.{Request}
 use Rattle.device_words.specs.declared.request.Response.{Response}
 use Rattle.device_words.specs.declared.request.Response.the-variants.{Ack, Nack, Busy, Error, Plugged, Unplugged, Mixed}
 use Rattle.device_words.proofs.TableLaws.{table-bit, zero-bit}
-use Rattle.memory_device.specs.Host.{refusal, done, ifOk, sizeFault, withRequested, resized, pinFault, pinned, unpinned, wasReset}
+use Rattle.memory_device.specs.Host.{hostRefusal, done, ifOk, sizeFault, withRequested, resized, pinFault, pinBlock, unpinBlock, systemReset}
 use Rattle.memory_device.specs.Request.{carriedInto, carried}
 use Rattle.memory_device.specs.Calls.{Call, request, resize, pin, unpin, reset, called, afterAck, ledgerAfter, after, ledger}
 use Rattle.memory_device.proofs.Kept.{reset-kept, pin-kept, unpin-kept, resize-kept, carry-kept}
 
 -- the table after an acknowledged request, block by block
-acknowledged-bit : (d : MemoryDevice) (r : Request) (had : ℕ → Bool) (b : ℕ) → b < 1024 → bitAt (d .plugged) b ≡ had b → bitAt (acknowledged d r) b ≡ afterAck d r had b
+acknowledged-bit : (d : MemoryDevice) (r : Request) (had : ℕ → Bool) (b : ℕ) → b < 1024 → bitAt (d .plugged) b ≡ had b → bitAt (tableAfterAck d r) b ≡ afterAck d r had b
 acknowledged-bit d r had b l e = go (eqb (r .kind) 0) (eqb (r .kind) 1) (eqb (r .kind) 2)
   where
     run : Bool → ℕ → Bool
@@ -70,17 +70,17 @@ state-takes-none d r had b h = go (eqb (r .kind) 0) (eqb (r .kind) 1) (eqb (r .k
 
 -- what a refusal or another answer leaves
 module _ (d : MemoryDevice) (had : ℕ → Bool) (b : ℕ) (l : b < 1024) (e : bitAt (d .plugged) b ≡ had b) where
-  kept : (fault : Bool) (k : ℕ) (x : MemoryDevice) → bitAt (x .plugged) b ≡ had b → bitAt (ifOk d (cond fault (refusal k d) (done x)) .device .plugged) b ≡ had b
+  kept : (fault : Bool) (k : ℕ) (x : MemoryDevice) → bitAt (x .plugged) b ≡ had b → bitAt (ifOk d (cond fault (hostRefusal k d) (done x)) .device .plugged) b ≡ had b
   kept fault k x f = go (deviceOk d) fault
     where
-      go : (y z : Bool) → bitAt (cond y (cond z (refusal k d) (done x)) (refusal 27 d) .device .plugged) b ≡ had b
+      go : (y z : Bool) → bitAt (cond y (cond z (hostRefusal k d) (done x)) (hostRefusal 27 d) .device .plugged) b ≡ had b
       go true true = e
       go true false = f
       go false z = e
 
   -- by the answer: a STATE's is an ACK too, and takes no block in or out
   answer-bit : (r : Request) (x : Response) → (isState x ≡ true → afterAck d r had b ≡ had b)
-      → bitAt (changedBy d r x .plugged) b ≡ cond (eqb (number (responseBytes (typeOf x) (stateOf x)) 0 2) 0) (afterAck d r had b) (had b)
+      → bitAt (changedBy d r x .plugged) b ≡ cond (eqb (leNumber (responseBytes (typeOf x) (stateOf x)) 0 2) 0) (afterAck d r had b) (had b)
   unfolding changedBy numberBy responseBytes le
   answer-bit r Ack f = acknowledged-bit d r had b l e
   answer-bit r Nack f = e
@@ -98,16 +98,16 @@ module _ (d : MemoryDevice) (had : ℕ → Bool) (b : ℕ) (l : b < 1024) (e : b
       go true h = rw h (answer-bit (requestOf s) (answered d (requestOf s)) (state-takes-none d (requestOf s) had b))
       go false h = rw h e
 
-  step-reset : bitAt (wasReset d .device .plugged) b ≡ ledgerAfter d had reset b
-  unfolding wasReset
+  step-reset : bitAt (systemReset d .device .plugged) b ≡ ledgerAfter d had reset b
+  unfolding systemReset
   step-reset = go (deviceOk d) refl
     where
-      go : (x : Bool) → deviceOk d ≡ x → bitAt (wasReset d .device .plugged) b ≡ cond (deviceOk d) false (had b)
+      go : (x : Bool) → deviceOk d ≡ x → bitAt (systemReset d .device .plugged) b ≡ cond (deviceOk d) false (had b)
       go true h = rw h (zero-bit b)
       go false h = rw h e
 
   step : (c : Call) → bitAt (called d c .plugged) b ≡ ledgerAfter d had c b
-  unfolding resized pinned unpinned
+  unfolding resized pinBlock unpinBlock
   step (request s) = step-request s
   step (resize n) = kept (sizeFault d n) 14 (withRequested d n) e
   step (pin c) = kept (pinFault d c) 15 (withPins d (withPin (d .pinned) c true)) e

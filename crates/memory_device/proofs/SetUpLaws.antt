@@ -10,7 +10,7 @@ use Rattle.map_check.specs.Check.{judged, Accepted}
 use Rattle.map_records.specs.declared.map.RegionMap.{RegionMap}
 use Rattle.map_check.proofs.Replies.{refused-first}
 use Rattle.device_words.specs.Device.{setupOk}
-use Rattle.memory_device.specs.SetUp.{managedIn, regionSize, freshDevice, refusal, valued, setUp}
+use Rattle.memory_device.specs.SetUp.{managedIn, regionSize, freshDevice, setUpRefusal, valued, setUp}
 use Rattle.memory_device.specs.declared.setup.DeviceValues.{DeviceValues}
 
 pub managed-here : (m : RegionMap) (n : ℕ) → region m n .kind ≡ managed → managedIn m (n + 1) ≡ region m n .size
@@ -28,10 +28,10 @@ module _ (m : RegionMap) (length : ℕ) (v : DeviceValues) where
   set-up-done ok h = rw (ok, h)
 
   pub set-up-values : Accepted m length → setupOk (v .«block_size») (v .addr .0) (regionSize m) (v .«usable_size») (v .«requested_size») ≡ false
-      → refusal (plain 13) ≡ setUp m length v
+      → setUpRefusal (plain 13) ≡ setUp m length v
   unfolding setUp Accepted
   set-up-values ok h = rw (ok, h)
 
-  pub set-up-refused : (r : Reply) → r ≡ judged m length → passes r ≡ false → refusal r ≡ setUp m length v
+  pub set-up-refused : (r : Reply) → r ≡ judged m length → passes r ≡ false → setUpRefusal r ≡ setUp m length v
   unfolding setUp
-  set-up-refused r e p = refused-first refusal (valued v (regionSize m)) r (judged m length) e p
+  set-up-refused r e p = refused-first setUpRefusal (valued v (regionSize m)) r (judged m length) e p

@@ -4,12 +4,12 @@ use mathlib.Core.List.{List, [], _∷_}
 use Prim.Native.Nat.{ℕ}
 use lib.Dec.{eqb}
 use Rattle.map_check.specs.Reply.{passes}
-use Rattle.device_words.specs.Bytes.{number}
+use Rattle.device_words.specs.Bytes.{leNumber}
 use Rattle.device_words.specs.Table.{within}
 use Rattle.device_words.specs.Device.{MemoryDevice, deviceOk}
-use Rattle.device_words.specs.Request.{Outcome, plug, unplug, unplugAll, requestOf, blockOf}
+use Rattle.device_words.specs.Request.{RequestOutcome, plugType, unplugType, unplugAllType, requestOf, blockOf}
 use Rattle.device_words.specs.declared.request.Request.{Request}
-use Rattle.memory_device.specs.Host.{resized, pinned, unpinned, wasReset}
+use Rattle.memory_device.specs.Host.{resized, pinBlock, unpinBlock, systemReset}
 use Rattle.memory_device.specs.Request.{carried}
 
 -- a call of the host or a request of the guest
@@ -24,19 +24,19 @@ pub data Call : Type 0 where
 abbrev pub called : MemoryDevice → Call → MemoryDevice
 called d (request s) = carried d s .device
 called d (resize n) = resized d n .device
-called d (pin b) = pinned d b .device
-called d (unpin b) = unpinned d b .device
-called d reset = wasReset d .device
+called d (pin b) = pinBlock d b .device
+called d (unpin b) = unpinBlock d b .device
+called d reset = systemReset d .device
 
 -- the response says ACK, 0, in its first two bytes; a refusal (27) says nothing
-abbrev pub acknowledges : Outcome → Bool
-acknowledges o = passes (o .reply) && eqb (number (o .response) 0 2) 0
+abbrev pub acknowledges : RequestOutcome → Bool
+acknowledges o = passes (o .reply) && eqb (leNumber (o .response) 0 2) 0
 
 -- the blocks held after an acknowledged request, where `had` were held before
 abbrev pub afterAck : MemoryDevice → Request → (ℕ → Bool) → ℕ → Bool
 afterAck d r had b =
-    cond (eqb (r .kind) plug) (cond (within (blockOf d (r .addr .0)) (r .blocks) b) true (had b))
-    (cond (eqb (r .kind) unplug) (cond (within (blockOf d (r .addr .0)) (r .blocks) b) false (had b)) (cond (eqb (r .kind) unplugAll) false (had b)))
+    cond (eqb (r .kind) plugType) (cond (within (blockOf d (r .addr .0)) (r .blocks) b) true (had b))
+    (cond (eqb (r .kind) unplugType) (cond (within (blockOf d (r .addr .0)) (r .blocks) b) false (had b)) (cond (eqb (r .kind) unplugAllType) false (had b)))
 
 -- the blocks acknowledged in less those acknowledged out, one call further; a system reset gives all back
 abbrev pub ledgerAfter : MemoryDevice → (ℕ → Bool) → Call → ℕ → Bool

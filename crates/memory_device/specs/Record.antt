@@ -1,6 +1,7 @@
 -- The device's record by value, and what a call of the host answers. Assumes nothing: these are definitions.
 use Rattle.map_check.specs.Reply.{Reply, accepted, plain}
 use Rattle.device_words.specs.Device.{MemoryDevice}
+use Rattle.map_records.specs.Refusal as refusal
 use Rattle.memory_device.specs.declared.device.MemoryDevice as value
 use Rattle.memory_device.specs.declared.device.Changed.{Changed}
 use Rattle.memory_device.specs.declared.device.HostAnswer.{HostAnswer}
@@ -22,14 +23,14 @@ recordOf d =
 -- document 01's number for each answer of a host call
 abbrev pub hostReply : HostAnswer → Reply
 hostReply answer.Done = accepted
-hostReply answer.Size = plain 14
-hostReply answer.Pin = plain 15
-hostReply answer.Record = plain 27
+hostReply answer.Size = plain refusal.SIZE
+hostReply answer.Pin = plain refusal.PIN
+hostReply answer.Record = plain refusal.RECORD
 
 -- document 01's answer, and the next state
-pub record Outcome : Type 0 where
+pub record HostOutcome : Type 0 where
   pub reply : Reply
   pub device : MemoryDevice
 
-abbrev pub outcomeOf : Changed → Outcome
-outcomeOf c = record { reply = hostReply (c .answer); device = recordOf (c .device) }
+abbrev pub hostOutcomeOf : Changed → HostOutcome
+hostOutcomeOf c = record { reply = hostReply (c .answer); device = recordOf (c .device) }

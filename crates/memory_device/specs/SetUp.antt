@@ -5,9 +5,10 @@ use lib.Dec.{eqb}
 use Rattle.map_records.specs.Map.{managed, region}
 use Rattle.map_check.specs.Reply.{Reply, accepted, plain, ifAccepted}
 use Rattle.map_check.specs.Check.{reply, judged}
+use Rattle.map_records.specs.Refusal as refusal
 use Rattle.map_records.specs.declared.map.RegionMap.{RegionMap}
 use Rattle.device_words.specs.Device.{MemoryDevice, noBlocks, noDevice, setupOk}
-use Rattle.memory_device.specs.Record.{Outcome, recordOf}
+use Rattle.memory_device.specs.Record.{HostOutcome, recordOf}
 use Rattle.memory_device.specs.declared.setup.DeviceValues.{DeviceValues}
 use Rattle.memory_device.specs.declared.setup.SetUpAnswer.{SetUpAnswer}
 use Rattle.memory_device.specs.declared.setup.SetUpAnswer.the-variants.{Checked, Values}
@@ -36,23 +37,23 @@ freshDevice v region =
     }
 
 -- a refusal has the record of zeros
-abbrev pub refusal : Reply → Outcome
-refusal r = record { reply = r; device = noDevice }
+abbrev pub setUpRefusal : Reply → HostOutcome
+setUpRefusal r = record { reply = r; device = noDevice }
 
 -- 13: 'device values break the rules below, or no managed node': without one the region is 0, which breaks them
-abbrev pub valued : DeviceValues → ℕ → Outcome
+abbrev pub valued : DeviceValues → ℕ → HostOutcome
 valued v region =
     cond (setupOk (v .«block_size») (v .addr .0) region (v .«usable_size») (v .«requested_size»))
-    (record { reply = accepted; device = freshDevice v region }) (refusal (plain 13))
+    (record { reply = accepted; device = freshDevice v region }) (setUpRefusal (plain refusal.SETUP))
 
 -- the map is judged first
-unfoldable pub setUp : RegionMap → ℕ → DeviceValues → Outcome
-setUp m memory v = ifAccepted (judged m memory) refusal (valued v (regionSize m))
+unfoldable pub setUp : RegionMap → ℕ → DeviceValues → HostOutcome
+setUp m memory v = ifAccepted (judged m memory) setUpRefusal (valued v (regionSize m))
 
 -- document 01's number for each answer
 abbrev pub setUpReply : SetUpAnswer → Reply
 setUpReply (Checked a) = reply a
-setUpReply Values = plain 13
+setUpReply Values = plain refusal.SETUP
 
-abbrev pub outcomeOf : SetUp → Outcome
-outcomeOf s = record { reply = setUpReply (s .answer); device = recordOf (s .device) }
+abbrev pub setUpOutcomeOf : SetUp → HostOutcome
+setUpOutcomeOf s = record { reply = setUpReply (s .answer); device = recordOf (s .device) }

@@ -1,19 +1,22 @@
-// The device's record, and the 37 words in which it lies.
+// The device's record, and the words in which it lies.
 ghost use mathlib.Core.Path.{_≡_};
 ghost use lib.ListN.{length};
 ghost use Rattle.map_check.specs.Reply.{numberOf};
 ghost use Rattle.device_words.specs.Device.{noDevice, withTables};
-ghost use Rattle.device_words.specs.Words.{deviceAt, deviceOf, deviceWords};
+ghost use Rattle.device_words.specs.Words.{deviceAt, deviceOf, deviceWords, deviceLength};
 ghost use Rattle.memory_device.specs.Record.{recordOf, hostReply};
+ghost use Rattle.device_words.specs.Table.{tableLength};
+use device_words::table::TABLE_WORDS;
 use device_words::words::ADDR;
 use device_words::words::BLOCK_SIZE;
+use device_words::words::DEVICE_WORDS;
 use device_words::words::PINNED;
 use device_words::words::PLUGGED;
 use device_words::words::REGION_SIZE;
 use device_words::words::REQUESTED_SIZE;
 use device_words::words::USABLE_SIZE;
-use device_words::words::WORDS;
 use map_records::map::GuestAddress;
+use map_records::refusal;
 use map_records::words::copy_words;
 
 // The memory device. Block b is plugged, or pinned, where bit b % 64 of word b / 64 is set.
@@ -23,8 +26,8 @@ pub struct MemoryDevice {
     pub region_size: u64,
     pub usable_size: u64,
     pub requested_size: u64,
-    pub plugged: [u64; 16],
-    pub pinned: [u64; 16],
+    pub plugged: [u64; TABLE_WORDS],
+    pub pinned: [u64; TABLE_WORDS],
 }
 
 // What a call of the host answers: done, or the refusal 14, 15 or 27 of document 01.
@@ -47,36 +50,36 @@ pub fn number_of(answer: HostAnswer) -> u64
 {
     match answer {
         HostAnswer::Done => 0,
-        HostAnswer::Size => 14,
-        HostAnswer::Pin => 15,
-        HostAnswer::Record => 27,
+        HostAnswer::Size => refusal::SIZE,
+        HostAnswer::Pin => refusal::PIN,
+        HostAnswer::Record => refusal::RECORD,
     }
 }
 
 // The sixteen words of a table.
-fn table_of(words: &[u64]) -> [u64; 16]
-    requires { ⌜ length (now words) ≡ 16 ⌝ }
+fn table_of(words: &[u64]) -> [u64; TABLE_WORDS]
+    requires { ⌜ length (now words) ≡ tableLength ⌝ }
     ensures { λ r. ⌜ r ≡ now (words .entry) ⌝ }
 {
-    let mut out = [0u64; 16];
+    let mut out = [0u64; TABLE_WORDS];
     copy_words(&mut out, words);
     out
 }
 
 // Both tables into a device's words.
-fn put_tables(words: &mut [u64], plugged: [u64; 16], pinned: [u64; 16])
-    requires { ⌜ length (now words) ≡ 37 ⌝ }
+fn put_tables(words: &mut [u64], plugged: [u64; TABLE_WORDS], pinned: [u64; TABLE_WORDS])
+    requires { ⌜ length (now words) ≡ deviceLength ⌝ }
     ensures { λ _. ⌜ now (words .exit) ≡ deviceWords (withTables (deviceAt (now (words .entry))) plugged pinned) ⌝ }
 {
     copy_words(&mut words[PLUGGED..PINNED], &plugged);
-    copy_words(&mut words[PINNED..WORDS], &pinned);
+    copy_words(&mut words[PINNED..DEVICE_WORDS], &pinned);
 }
 
 // The words of a record.
-pub fn words_of(device: MemoryDevice) -> [u64; 37]
+pub fn words_of(device: MemoryDevice) -> [u64; DEVICE_WORDS]
     ensures { λ r. ⌜ (r ≡ deviceWords (recordOf device)) × (deviceOf r ≡ recordOf device) ⌝ }
 {
-    let mut words = [0u64; 37];
+    let mut words = [0u64; DEVICE_WORDS];
     let plugged = device.plugged;
     let pinned = device.pinned;
     words[BLOCK_SIZE] = device.block_size;
@@ -92,9 +95,9 @@ pub fn words_of(device: MemoryDevice) -> [u64; 37]
 pub fn device_of(words: &[u64]) -> MemoryDevice
     ensures { λ r. ⌜ recordOf r ≡ deviceOf (now (words .entry)) ⌝ }
 {
-    if words.len() == WORDS {
+    if words.len() == DEVICE_WORDS {
         let plugged = table_of(&words[PLUGGED..PINNED]);
-        let pinned = table_of(&words[PINNED..WORDS]);
+        let pinned = table_of(&words[PINNED..DEVICE_WORDS]);
         return MemoryDevice {
             block_size: words[BLOCK_SIZE],
             addr: GuestAddress(words[ADDR]),
@@ -118,7 +121,7 @@ pub fn no_device() -> MemoryDevice
         region_size: 0,
         usable_size: 0,
         requested_size: 0,
-        plugged: [0u64; 16],
-        pinned: [0u64; 16],
+        plugged: [0u64; TABLE_WORDS],
+        pinned: [0u64; TABLE_WORDS],
     }
 }

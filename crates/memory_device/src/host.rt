@@ -1,8 +1,8 @@
 // The host's calls on a record by value: each is the call on its words where they lie.
 ghost use mathlib.Core.Path.{_≡_};
 ghost use Rattle.device_words.specs.Device.{deviceOk};
-ghost use Rattle.memory_device.specs.Record.{recordOf, outcomeOf};
-ghost use Rattle.memory_device.specs.Host.{resized, pinned, unpinned, wasReset, configured, readOf, byteBlock, byteOf};
+ghost use Rattle.memory_device.specs.Record.{recordOf, hostOutcomeOf};
+ghost use Rattle.memory_device.specs.Host.{resized, pinBlock, unpinBlock, systemReset, configured, readOf, byteBlock, byteOf};
 use crate::device::Changed;
 use crate::device::HostAnswer;
 use crate::device::MemoryDevice;
@@ -10,6 +10,7 @@ use crate::device::device_of;
 use crate::device::words_of;
 use crate::lent;
 use crate::lent::ByteBlock;
+use device_words::bytes::CONFIGURATION_BYTES;
 use device_words::device::BlockNumber;
 use device_words::rules::device_ok;
 use map_records::map::RegionOffset;
@@ -17,7 +18,7 @@ use map_records::map::RegionOffset;
 // The answer, and the configuration's bytes: zeros, where the record is refused.
 pub struct Configuration {
     pub answer: HostAnswer,
-    pub bytes: [u8; 56],
+    pub bytes: [u8; CONFIGURATION_BYTES],
 }
 
 impl MemoryDevice {
@@ -31,7 +32,7 @@ impl MemoryDevice {
 
     // The requested size is set, and raises the usable size to it if that is lower.
     pub fn set_requested_size(self, size: u64) -> Changed
-        ensures { λ r. ⌜ outcomeOf r ≡ resized (recordOf self) size ⌝ }
+        ensures { λ r. ⌜ hostOutcomeOf r ≡ resized (recordOf self) size ⌝ }
     {
         let mut words = words_of(self);
         let answer = lent::set_requested_size(&mut words, size);
@@ -44,7 +45,7 @@ impl MemoryDevice {
 
     // A system reset: the fresh state, with the sizes and addr as they are.
     pub fn system_reset(self) -> Changed
-        ensures { λ r. ⌜ outcomeOf r ≡ wasReset (recordOf self) ⌝ }
+        ensures { λ r. ⌜ hostOutcomeOf r ≡ systemReset (recordOf self) ⌝ }
     {
         let mut words = words_of(self);
         let answer = lent::system_reset(&mut words);
@@ -57,7 +58,7 @@ impl MemoryDevice {
 
     // A block that the host holds, so that it is not unplugged.
     pub fn pin(self, block: BlockNumber) -> Changed
-        ensures { λ r. ⌜ outcomeOf r ≡ pinned (recordOf self) (block .0) ⌝ }
+        ensures { λ r. ⌜ hostOutcomeOf r ≡ pinBlock (recordOf self) (block .0) ⌝ }
     {
         let mut words = words_of(self);
         let answer = lent::pin(&mut words, block.0 as u64);
@@ -70,7 +71,7 @@ impl MemoryDevice {
 
     // A block that the host holds no longer.
     pub fn unpin(self, block: BlockNumber) -> Changed
-        ensures { λ r. ⌜ outcomeOf r ≡ unpinned (recordOf self) (block .0) ⌝ }
+        ensures { λ r. ⌜ hostOutcomeOf r ≡ unpinBlock (recordOf self) (block .0) ⌝ }
     {
         let mut words = words_of(self);
         let answer = lent::unpin(&mut words, block.0 as u64);
@@ -86,7 +87,7 @@ impl MemoryDevice {
         ensures { λ r. ⌜ readOf r ≡ configured (recordOf self) ⌝ }
     {
         let words = words_of(self);
-        let mut bytes = [0u8; 56];
+        let mut bytes = [0u8; CONFIGURATION_BYTES];
         let answer = lent::configuration(&words, &mut bytes);
         Configuration {
             answer: answer,

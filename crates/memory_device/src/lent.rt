@@ -2,9 +2,9 @@
 // words as they were, and a slice of another length is refused with 27.
 ghost use mathlib.Core.Path.{_≡_};
 ghost use Rattle.device_words.specs.Words.{deviceOf};
-ghost use Rattle.memory_device.specs.Host.{resized, pinned, unpinned, wasReset, configuredInto, byteBlock, byteOf};
+ghost use Rattle.memory_device.specs.Host.{resized, pinBlock, unpinBlock, systemReset, configuredInto, byteBlock, byteOf};
 ghost use Rattle.memory_device.specs.Request.{carriedInto};
-ghost use Rattle.memory_device.specs.Lent.{Left, Reads, Carries};
+ghost use Rattle.memory_device.specs.Lent.{LeavesDevice, ReadsConfiguration, Carries};
 use crate::device::HostAnswer;
 use crate::state::can_pin;
 use crate::state::clear_tables;
@@ -12,6 +12,9 @@ use crate::state::put_values;
 use crate::state::set_requested;
 use crate::state::size_fault;
 use device_words::answer::respond;
+use device_words::bytes::CONFIGURATION_BYTES;
+use device_words::bytes::REQUEST_BYTES;
+use device_words::bytes::RESPONSE_BYTES;
 use device_words::bytes::copy_bytes;
 use device_words::device::BlockNumber;
 use device_words::device::block_of;
@@ -31,7 +34,7 @@ pub enum ByteBlock {
 
 // The requested size is set, and raises the usable size to it if that is lower.
 pub fn set_requested_size(device: &mut [u64], size: u64) -> HostAnswer
-    ensures { λ r. ⌜ Left (resized (deviceOf (now (device .entry))) size) (now (device .entry)) r (now (device .exit)) ⌝ }
+    ensures { λ r. ⌜ LeavesDevice (resized (deviceOf (now (device .entry))) size) (now (device .entry)) r (now (device .exit)) ⌝ }
 {
     if device_ok(device) {
         if size_fault(device, size) {
@@ -45,7 +48,7 @@ pub fn set_requested_size(device: &mut [u64], size: u64) -> HostAnswer
 
 // A system reset: the fresh state, with the sizes and addr as they are.
 pub fn system_reset(device: &mut [u64]) -> HostAnswer
-    ensures { λ r. ⌜ Left (wasReset (deviceOf (now (device .entry)))) (now (device .entry)) r (now (device .exit)) ⌝ }
+    ensures { λ r. ⌜ LeavesDevice (systemReset (deviceOf (now (device .entry)))) (now (device .entry)) r (now (device .exit)) ⌝ }
 {
     if device_ok(device) {
         clear_tables(device);
@@ -57,7 +60,7 @@ pub fn system_reset(device: &mut [u64]) -> HostAnswer
 // A block that the host holds, so that it is not unplugged. A number past every block is refused like
 // any other outside the region.
 pub fn pin(device: &mut [u64], block: u64) -> HostAnswer
-    ensures { λ r. ⌜ Left (pinned (deviceOf (now (device .entry))) block) (now (device .entry)) r (now (device .exit)) ⌝ }
+    ensures { λ r. ⌜ LeavesDevice (pinBlock (deviceOf (now (device .entry))) block) (now (device .entry)) r (now (device .exit)) ⌝ }
 {
     let b = block as usize;
     if device_ok(device) {
@@ -72,7 +75,7 @@ pub fn pin(device: &mut [u64], block: u64) -> HostAnswer
 
 // A block that the host holds no longer.
 pub fn unpin(device: &mut [u64], block: u64) -> HostAnswer
-    ensures { λ r. ⌜ Left (unpinned (deviceOf (now (device .entry))) block) (now (device .entry)) r (now (device .exit)) ⌝ }
+    ensures { λ r. ⌜ LeavesDevice (unpinBlock (deviceOf (now (device .entry))) block) (now (device .entry)) r (now (device .exit)) ⌝ }
 {
     let b = block as usize;
     if device_ok(device) {
@@ -87,9 +90,9 @@ pub fn unpin(device: &mut [u64], block: u64) -> HostAnswer
 
 // The configuration that the guest reads, into 56 bytes.
 pub fn configuration(device: &[u64], bytes: &mut [u8]) -> HostAnswer
-    ensures { λ r. ⌜ Reads (configuredInto (deviceOf (now (device .entry))) (now (bytes .entry))) r (now (bytes .exit)) ⌝ }
+    ensures { λ r. ⌜ ReadsConfiguration (configuredInto (deviceOf (now (device .entry))) (now (bytes .entry))) r (now (bytes .exit)) ⌝ }
 {
-    if bytes.len() == 56 {
+    if bytes.len() == CONFIGURATION_BYTES {
         if device_ok(device) {
             put_values(device, bytes);
             return HostAnswer::Done;
@@ -99,11 +102,15 @@ pub fn configuration(device: &[u64], bytes: &mut [u8]) -> HostAnswer
 }
 
 // A request carried out; its response goes into 10 bytes.
-pub fn carry_out(device: &mut [u64], request: [u8; 24], response: &mut [u8]) -> HostAnswer
+pub fn carry_out(
+    device: &mut [u64],
+    request: [u8; REQUEST_BYTES],
+    response: &mut [u8],
+) -> HostAnswer
     ensures { λ r. ⌜ Carries (carriedInto (deviceOf (now (device .entry))) request (now (response .entry)))
         (now (device .entry)) r (now (response .exit)) (now (device .exit)) ⌝ }
 {
-    if response.len() == 10 {
+    if response.len() == RESPONSE_BYTES {
         if device_ok(device) {
             let bytes = respond(device, request);
             copy_bytes(response, &bytes);

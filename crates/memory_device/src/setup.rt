@@ -2,17 +2,19 @@
 ghost use mathlib.Core.Path.{_≡_};
 ghost use Rattle.map_records.specs.Words.{mapOf};
 ghost use Rattle.map_check.specs.Contracts.{Counted};
-ghost use Rattle.memory_device.specs.SetUp.{regionSize, setUp, setUpReply, outcomeOf};
+ghost use Rattle.memory_device.specs.SetUp.{regionSize, setUp, setUpReply, setUpOutcomeOf};
 ghost use Rattle.map_check.specs.Reply.{numberOf};
 use crate::device::MemoryDevice;
 use crate::device::no_device;
 use device_words::rules::setup_ok;
+use device_words::table::TABLE_WORDS;
 use map_check::check;
 use map_check::check::MapAnswer;
 use map_check::check::accepts;
 use map_check::check::check_map;
 use map_records::map::GuestAddress;
 use map_records::map::MANAGED;
+use map_records::refusal;
 use map_records::words::region_at;
 use map_records::words::region_count;
 
@@ -54,7 +56,7 @@ fn region_size(map: &[u64]) -> u64
 
 // The fresh device of a map that is judged first.
 pub fn set_up(map: &[u64], memory_length: u64, values: DeviceValues) -> SetUp
-    ensures { λ r. ⌜ outcomeOf r ≡ setUp (mapOf (now (map .entry))) «memory_length» values ⌝ }
+    ensures { λ r. ⌜ setUpOutcomeOf r ≡ setUp (mapOf (now (map .entry))) «memory_length» values ⌝ }
 {
     let answer = check_map(map, memory_length);
     if accepts(answer) {
@@ -75,8 +77,8 @@ pub fn set_up(map: &[u64], memory_length: u64, values: DeviceValues) -> SetUp
                     region_size: region,
                     usable_size: values.usable_size,
                     requested_size: values.requested_size,
-                    plugged: [0u64; 16],
-                    pinned: [0u64; 16],
+                    plugged: [0u64; TABLE_WORDS],
+                    pinned: [0u64; TABLE_WORDS],
                 },
             };
         }
@@ -96,7 +98,7 @@ pub fn number_of(answer: SetUpAnswer) -> u64
     ensures { λ r. ⌜ r ≡ numberOf (setUpReply answer) ⌝ }
 {
     match answer {
-        SetUpAnswer::Values => 13,
+        SetUpAnswer::Values => refusal::SETUP,
         SetUpAnswer::Checked(map) => check::number_of(map),
     }
 }

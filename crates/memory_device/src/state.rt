@@ -4,9 +4,11 @@ ghost use mathlib.Core.Bool.{true, not};
 ghost use Prim.Native.Nat.{_<_, max};
 ghost use lib.ListN.{length};
 ghost use Rattle.device_words.specs.Device.{fresh};
-ghost use Rattle.device_words.specs.Contracts.{Sound};
-ghost use Rattle.device_words.specs.Words.{deviceAt, deviceWords};
+ghost use Rattle.device_words.specs.Contracts.{ValidWords};
+ghost use Rattle.device_words.specs.Words.{deviceAt, deviceWords, deviceLength};
 ghost use Rattle.memory_device.specs.Host.{sizeFault, withRequested, pinFault, configurationOf};
+ghost use Rattle.device_words.specs.Bytes.{configurationLength};
+ghost use Rattle.device_words.specs.Table.{mostBlocks};
 use device_words::bytes::put_configuration;
 use device_words::pins::is_pinned;
 use device_words::plugs::blocks_in;
@@ -15,12 +17,12 @@ use device_words::state::plugged_size;
 use device_words::table::clear;
 use device_words::words::ADDR;
 use device_words::words::BLOCK_SIZE;
+use device_words::words::DEVICE_WORDS;
 use device_words::words::PINNED;
 use device_words::words::PLUGGED;
 use device_words::words::REGION_SIZE;
 use device_words::words::REQUESTED_SIZE;
 use device_words::words::USABLE_SIZE;
-use device_words::words::WORDS;
 use map_records::map::GuestAddress;
 
 fn larger(a: u64, b: u64) -> u64
@@ -31,7 +33,7 @@ fn larger(a: u64, b: u64) -> u64
 
 // Is a requested size refused?
 pub fn size_fault(device: &[u64], size: u64) -> bool
-    requires { ⌜ Sound (now device) ⌝ }
+    requires { ⌜ ValidWords (now device) ⌝ }
     ensures { λ r. ⌜ r ≡ sizeFault (deviceAt (now (device .entry))) size ⌝ }
 {
     (size % device[BLOCK_SIZE] != 0) | (device[REGION_SIZE] < size)
@@ -39,7 +41,7 @@ pub fn size_fault(device: &[u64], size: u64) -> bool
 
 // Another requested size, and the usable size at least that.
 pub fn set_requested(device: &mut [u64], size: u64)
-    requires { ⌜ length (now device) ≡ 37 ⌝ }
+    requires { ⌜ length (now device) ≡ deviceLength ⌝ }
     ensures { λ _. ⌜ now (device .exit) ≡ deviceWords (withRequested (deviceAt (now (device .entry))) size) ⌝ }
 {
     let usable = larger(device[USABLE_SIZE], size);
@@ -49,18 +51,18 @@ pub fn set_requested(device: &mut [u64], size: u64)
 
 // Nothing is plugged or pinned any longer.
 pub fn clear_tables(device: &mut [u64])
-    requires { ⌜ length (now device) ≡ 37 ⌝ }
+    requires { ⌜ length (now device) ≡ deviceLength ⌝ }
     ensures { λ _. ⌜ now (device .exit) ≡ deviceWords (fresh (deviceAt (now (device .entry)))) ⌝ }
 {
     clear(&mut device[PLUGGED..PINNED]);
-    clear(&mut device[PINNED..WORDS]);
+    clear(&mut device[PINNED..DEVICE_WORDS]);
 }
 
 // Is the block in the region, plugged and not pinned?
 pub fn can_pin(device: &[u64], b: usize) -> bool
-    requires { ⌜ Sound (now device) ⌝ }
+    requires { ⌜ ValidWords (now device) ⌝ }
     ensures value { λ r. ⌜ r ≡ not (pinFault (deviceAt (now (device .entry))) b) ⌝ }
-    ensures room { λ r. ⌜ (r ≡ true → b < 1024) ⌝ }
+    ensures room { λ r. ⌜ (r ≡ true → b < mostBlocks) ⌝ }
 {
     let blocks = blocks_in(device, device[REGION_SIZE]);
     (b < blocks) & (is_plugged(device, b) & !is_pinned(device, b))
@@ -68,7 +70,7 @@ pub fn can_pin(device: &[u64], b: usize) -> bool
 
 // The configuration's bytes.
 pub fn put_values(device: &[u64], out: &mut [u8])
-    requires { ⌜ Sound (now device) × (length (now out) ≡ 56) ⌝ }
+    requires { ⌜ ValidWords (now device) × (length (now out) ≡ configurationLength) ⌝ }
     ensures { λ _. ⌜ now (out .exit) ≡ configurationOf (deviceAt (now (device .entry))) ⌝ }
 {
     let addr = GuestAddress(device[ADDR]);

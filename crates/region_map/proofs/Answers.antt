@@ -5,7 +5,7 @@ use lib.Dec.{eqb}
 use Rattle.map_check.specs.Reply.{Reply, accepted, nodes, place, plain}
 use Rattle.map_check.proofs.Answers.{injective, answerOf, reply-back, reply-form}
 use Rattle.region_map.specs.Flatten.{flatReply}
-use Rattle.region_map.specs.Resolve.{Led, refused, leads, ledBy}
+use Rattle.region_map.specs.Resolve.{WalkAnswer, refused, leads, ledBy}
 use Rattle.region_map.specs.declared.resolve.Resolution.{Resolution}
 use Rattle.region_map.specs.declared.resolve.Resolution.the-variants.{Refused, Answered}
 use Rattle.region_map.specs.declared.view.FlatAnswer.{FlatAnswer}
@@ -25,7 +25,7 @@ flat-back Record = refl
 pub flat-reply-injective : (a b : FlatAnswer) → flatReply a ≡ flatReply b → a ≡ b
 flat-reply-injective = injective flatReply flatAnswerOf flat-back
 
-resolutionOf : Led → Resolution
+resolutionOf : WalkAnswer → Resolution
 resolutionOf (refused r) = Refused (answerOf r)
 resolutionOf (leads x) = Answered x
 

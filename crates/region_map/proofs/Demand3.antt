@@ -9,12 +9,12 @@ use lib.Dec.{eqb}
 use lib.ListN.{length, getD, replicate, List·getD-append}
 use lib.Seq.{take-append-seam}
 use borrow.Author.Tests.{lt-ltb, le-ltb, eq-eqb, ne-eqb, eqb-false}
-use Rattle.map_records.specs.Map.{ram, mmio, managed, region}
+use Rattle.map_records.specs.Map.{ram, mmio, managed, region, hasMemory}
 use Rattle.map_check.specs.Reply.{accepted, plain}
 use Rattle.map_check.specs.Check.{Accepted}
 use Rattle.region_map.specs.Walk.{walkRoot, walkRootBy}
-use Rattle.region_map.specs.FlatList.{flat, inside, answerOf, lookup, Chain, Longest}
-use Rattle.region_map.specs.Flatten.{backingOf, rootSize, flatList, viewHolding, refusal, listed, flattened, FirstHalf}
+use Rattle.region_map.specs.FlatList.{flat, inside, rangeAnswer, lookup, LongestFrom, Longest}
+use Rattle.region_map.specs.Flatten.{backingOf, rootSize, flatList, viewHolding, flatRefusal, listed, flattened, FirstHalf}
 use Rattle.map_records.specs.View.{noRange, entries}
 use Rattle.region_map.specs.ViewRules.{LawfulRange, Lawful}
 use Rattle.map_records.specs.View.{rangeOf, lastOffset}
@@ -69,14 +69,14 @@ module _ (m : RegionMap) (memory : ℕ) (ok : Accepted m memory) where
       (rw (ok, le-ltb 256 (length (flatList m)) h), subst (FirstHalf m) (sym (entries-view (flatList m))) (list-first-half m))
 
   -- 12: 'more than 256 runs'
-  pub refused-12 : 256 < length (flatList m) → flattened m memory ≡ refusal (plain 12)
+  pub refused-12 : 256 < length (flatList m) → flattened m memory ≡ flatRefusal (plain 12)
   unfolding flattened Accepted listed
   refused-12 h = rw (ok, lt-ltb 256 (length (flatList m)) h)
 
 -- The k-th range of a list of longest runs.
 module _ (backing : ℕ → Backing) where
   -- every range of the tail starts after the head's last address
-  tail-above : (x : FlatRange) (xs : List FlatRange) (k : ℕ) → Chain backing x xs → k < length xs → x .last .0 < getD xs k noRange .first .0
+  tail-above : (x : FlatRange) (xs : List FlatRange) (k : ℕ) → LongestFrom backing x xs → k < length xs → x .last .0 < getD xs k noRange .first .0
   tail-above x [] k c h = absurd (omega arith)
   tail-above x (y ∷ ys) zero c h = c .1 .above
   tail-above x (y ∷ ys) (suc k) c h =
@@ -93,7 +93,7 @@ module _ (backing : ℕ → Backing) where
   above-at (x ∷ (y ∷ ys)) (suc j) (suc k) c p h = above-at (y ∷ ys) j k (c .2) (omega arith) (omega arith)
 
   given-at : (l : List FlatRange) (k a : ℕ) → Longest backing l → k < length l → getD l k noRange .first .0 ≤ a → a ≤ getD l k noRange .last .0
-      → lookup l a ≡ answerOf (getD l k noRange) a
+      → lookup l a ≡ rangeAnswer (getD l k noRange) a
   given-at [] k a c h p q = absurd (omega arith)
   given-at (x ∷ xs) zero a c h p q = here backing x xs a p q
   given-at (x ∷ []) (suc k) a c h p q = absurd (omega arith)
@@ -109,7 +109,7 @@ module _ (m : RegionMap) (memory : ℕ) (ok : Accepted m memory) where
       let r = getD (flatList m) k noRange in
       let e = entry-at (backingOf m) (flatList m) k (list-longest m) h in
       let order = e .order in
-      let led : walkRoot m (r .last .0) ≡ answerOf r (r .last .0) =
+      let led : walkRoot m (r .last .0) ≡ rangeAnswer r (r .last .0) =
       sym (list-gives m (r .last .0)) ∙ given-at (backingOf m) (flatList m) k (r .last .0) (list-longest m) h order (omega arith) in
       let leaf : LeafOf m (r .region) (lastOffset r) = root-leaf m memory ok (r .last .0) (r .region) (record { 0 = lastOffset r }) led in
       let s = accepted-sound m memory ok in
@@ -121,15 +121,15 @@ module _ (m : RegionMap) (memory : ℕ) (ok : Accepted m memory) where
       let top : r .last .0 < rootSize m = in-root (r .last .0) (r .region) (record { 0 = lastOffset r }) led in
       let root = s .bounded (m .count - 1) (omega arith) .size in
       record {
-        kind = λ p q. e .kind ∙ leaf .kinds (λ z. p (e .kind ∙ z)) (λ z. q (e .kind ∙ z));
-        number = omega arith;
+        kind = λ q. ap hasMemory (e .kind) ∙ leaf .kinds (λ z. q (e .kind ∙ z));
+        known = omega arith;
         order = order;
         last = omega arith;
         offset = omega arith;
         bytes = λ q.
-            let other : region m (r .region) .kind ≡ mmio → ⊥ = λ z. q (e .kind ∙ z) in
-            let base : r .base ≡ region m (r .region) .«memory_start» = e .base ∙ rw (ne-eqb (region m (r .region) .kind) mmio other) in
-            let end = s .ends (r .region) below (held (region m (r .region) .kind) (leaf .kinds) other) in
+            let there : hasMemory (region m (r .region) .kind) ≡ true = ap hasMemory (sym (e .kind)) ∙ q in
+            let base : r .base ≡ region m (r .region) .«memory_start» = e .base ∙ rw there in
+            let end = s .ends (r .region) below there in
             omega arith;
         inside = within;
       }
@@ -140,13 +140,6 @@ module _ (m : RegionMap) (memory : ℕ) (ok : Accepted m memory) where
           go : Dec (a < rootSize m) → a < rootSize m
           go (yes h) = h
           go (no h) = absurd (let z : Nothing ≡ At n o = sym (root-past m a (omega arith)) ∙ e in let y : _≡_ {A = ℕ} 0 1 = cc in omega arith)
-
-      held : (k : ℕ) → ((k ≡ ram → ⊥) → (k ≡ mmio → ⊥) → k ≡ managed) → (k ≡ mmio → ⊥) → (eqb k ram || eqb k managed) ≡ true
-      held k f g = go (eqb k ram) refl
-        where
-          go : (b : Bool) → eqb k ram ≡ b → (b || eqb k managed) ≡ true
-          go true e = refl
-          go false e = eq-eqb k managed (f (eqb-false k ram e) g)
 
   range-eq : (k : ℕ) → k < length (flatList m) → rangeOf (viewHolding (flatList m)) k ≡ getD (flatList m) k noRange
   unfolding viewHolding

@@ -12,7 +12,7 @@ use Rattle.map_check.specs.Fault.{kindFault, fieldFault, parentOf, parentFault,
 use Rattle.map_check.specs.Clash.{priorityOf, memoryClash, managedClash, portClash, siblingClash}
 use Rattle.map_check.specs.Check.{judgedBy, judged}
 use Rattle.map_check.proofs.First.{lowest-same, pair-same}
-use Rattle.region_map.specs.Walk.{rank, child, ranked, holds, asked, own, answer, tried, visit, walkBelow, walkBy, walkRootBy, walk, walkRoot}
+use Rattle.region_map.specs.Walk.{rank, child, ranked, holds, asked, own, rankAnswer, tried, walkAt, walkBelow, walkBy, walkRootBy, walk, walkRoot}
 use Rattle.region_map.specs.DeviceWindows.{oldPriority, loweredField, lowered, loweredMap, NoDefault}
 use Rattle.map_records.specs.declared.map.Region.{Region}
 use Rattle.map_records.specs.declared.map.RegionMap.{RegionMap}
@@ -27,11 +27,11 @@ module _ (p q : Region → ℕ) (m : RegionMap) (regions : List Region) (field :
 
   -- The walk: at region n by the priorities of the regions below n.
   module _ (u : ℕ → ℕ → Resolved) (n : ℕ) (equal : (c : ℕ) → c < n → q (region l c) ≡ p (region m c)) (a : ℕ) where
-    same-answer : (r : ℕ) → answer q l u n r a ≡ answer p m u n r a
-    unfolding answer ranked rank child asked holds
+    same-answer : (r : ℕ) → rankAnswer q l u n r a ≡ rankAnswer p m u n r a
+    unfolding rankAnswer ranked rank child asked holds
     same-answer r = go (ltb (r % 32) n) refl
       where
-        go : (b : Bool) → ltb (r % 32) n ≡ b → answer q l u n r a ≡ answer p m u n r a
+        go : (b : Bool) → ltb (r % 32) n ≡ b → rankAnswer q l u n r a ≡ rankAnswer p m u n r a
         go true e = rw (equal (r % 32) (ltb-true (r % 32) n e), same (r % 32))
         go false e = rw e
 
@@ -40,8 +40,8 @@ module _ (p q : Region → ℕ) (m : RegionMap) (regions : List Region) (field :
     same-tried zero = rw (same n)
     same-tried (suc r) = rw (same-answer r, same-tried r)
 
-    same-visit : visit q l u n a ≡ visit p m u n a
-    unfolding visit
+    same-visit : walkAt q l u n a ≡ walkAt p m u n a
+    unfolding walkAt
     same-visit = rw (same n, same-tried 8192)
 
   same-below : (k : ℕ) → ((c : ℕ) → c < k → q (region l c) ≡ p (region m c)) → walkBelow q l k ≡ walkBelow p m k
@@ -55,7 +55,7 @@ module _ (p q : Region → ℕ) (m : RegionMap) (regions : List Region) (field :
 
   same-walk : (n : ℕ) → ((c : ℕ) → c < n → q (region l c) ≡ p (region m c)) → (a : ℕ) → walkBy q l n a ≡ walkBy p m n a
   unfolding walkBy
-  same-walk n equal a = ap (λ (u : ℕ → ℕ → Resolved). visit q l u n a) (same-below n equal) ∙ same-visit (walkBelow p m n) n equal a
+  same-walk n equal a = ap (λ (u : ℕ → ℕ → Resolved). walkAt q l u n a) (same-below n equal) ∙ same-visit (walkBelow p m n) n equal a
 
   -- The check: by the priorities of all regions, and with priority fields of which 6 says the same.
   module _ (equal : (c : ℕ) → c < m .count → q (region l c) ≡ p (region m c)) (bounds : (c : ℕ) → ltb 255 (field c) ≡ ltb 255 (region m c .priority)) (memory : ℕ) where

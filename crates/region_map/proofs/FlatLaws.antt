@@ -11,31 +11,31 @@ use Rattle.region_map.specs.declared.resolve.Resolved.{Resolved}
 use Rattle.region_map.specs.declared.resolve.Resolved.the-variants.{Nothing, At}
 use Rattle.region_map.specs.declared.flat.Backing.{Backing}
 use Rattle.map_records.specs.declared.view.FlatRange.{FlatRange}
-use Rattle.region_map.specs.FlatList.{rangeAt, joins, after, push, extend, flat, inside, answerOf, lookup}
+use Rattle.region_map.specs.FlatList.{rangeFor, joins, pushAfter, push, extend, flat, inside, rangeAnswer, lookup}
 use Rattle.region_map.specs.Contracts.{shift}
-use Rattle.region_map.specs.FlatList.{Entry, Longest}
+use Rattle.region_map.specs.FlatList.{ValuedEntry, Longest}
 use Rattle.region_map.proofs.RangeTests.{Is, on, off, is, inside-on, inside-before, inside-beyond}
 use Rattle.region_map.proofs.PushLaws.{Under, push-push, lookup-push, longest-push, under-more, under-push}
 
 module _ (backing : ℕ → Backing) where
-  sound-at : (n m k o : ℕ) → n ≤ m → Entry backing (rangeAt backing n m k o)
+  sound-at : (n m k o : ℕ) → n ≤ m → ValuedEntry backing (rangeFor backing n m k o)
   sound-at n m k o h = record { order = h; kind = refl; base = refl }
 
   longest-extend : (l : List FlatRange) (n : ℕ) (b : Resolved) → Longest backing l → Under l n → Longest backing (extend backing l n n b)
   unfolding extend
   longest-extend l n Nothing c u = c
-  longest-extend l n (At k o) c u = longest-push backing (rangeAt backing n n k (o .0)) (sound-at n n k (o .0) (omega arith)) l c u
+  longest-extend l n (At k o) c u = longest-push backing (rangeFor backing n n k (o .0)) (sound-at n n k (o .0) (omega arith)) l c u
 
   under-extend : (l : List FlatRange) (n : ℕ) (b : Resolved) → Under l n → Under (extend backing l n n b) (suc n)
   unfolding extend
   under-extend l n Nothing u = under-more l n (suc n) (omega arith) u
-  under-extend l n (At k o) u = under-push l (rangeAt backing n n k (o .0)) (suc n) (under-more l n (suc n) (omega arith) u) (omega arith)
+  under-extend l n (At k o) u = under-push l (rangeFor backing n n k (o .0)) (suc n) (under-more l n (suc n) (omega arith) u) (omega arith)
 
   extend-here : (l : List FlatRange) (n : ℕ) (b : Resolved) → Longest backing l → Under l n → lookup l n ≡ Nothing → lookup (extend backing l n n b) n ≡ b
   unfolding extend
   extend-here l n Nothing c u h = h
   extend-here l n (At k o) c u h =
-      let r = rangeAt backing n n k (o .0) in
+      let r = rangeFor backing n n k (o .0) in
       let e : o .0 + (n - n) ≡ o .0 = omega arith in
       lookup-push backing r (sound-at n n k (o .0) (omega arith)) l n c u
       ∙ rw (inside-on r n (omega arith) (omega arith), e)
@@ -47,9 +47,9 @@ module _ (backing : ℕ → Backing) where
   extend-other l n (At k o) a c u h = lookup-push backing r (sound-at n n k (o .0) (omega arith)) l a c u ∙ go (decLt a n)
     where
       r : FlatRange
-      r = rangeAt backing n n k (o .0)
+      r = rangeFor backing n n k (o .0)
 
-      go : Dec (a < n) → cond (inside r a) (answerOf r a) (lookup l a) ≡ lookup l a
+      go : Dec (a < n) → cond (inside r a) (rangeAnswer r a) (lookup l a) ≡ lookup l a
       go (yes q) = rw (inside-before r a q)
       go (no q) = rw (inside-beyond r a (omega arith))
 
@@ -88,7 +88,7 @@ extend-more : (backing : ℕ → Backing) (l : List FlatRange) (at d : ℕ) (b :
 unfolding extend
 extend-more backing l at d Nothing = refl
 extend-more backing l at d (At k o) =
-    push-push l (rangeAt backing at (at + d) k (o .0)) (rangeAt backing (suc (at + d)) (suc (at + d)) k (o .0 + suc d))
+    push-push l (rangeFor backing at (at + d) k (o .0)) (rangeFor backing (suc (at + d)) (suc (at + d)) k (o .0 + suc d))
     (record { next = omega arith; region = refl; offset = omega arith })
 
 module _ (backing : ℕ → Backing) (f : ℕ → Resolved) (at : ℕ) where
@@ -107,11 +107,11 @@ module _ (backing : ℕ → Backing) (f : ℕ → Resolved) (at : ℕ) where
       rw (e, add-suc at d) (stretch d (λ i k. h i (omega arith)))
 
 -- the list never gets shorter
-after-grows : (x : FlatRange) (xs : List FlatRange) (r : FlatRange) → length (x ∷ xs) ≤ length (after x xs r)
-unfolding after
+after-grows : (x : FlatRange) (xs : List FlatRange) (r : FlatRange) → length (x ∷ xs) ≤ length (pushAfter x xs r)
+unfolding pushAfter
 after-grows x [] r = go (is (joins x r))
   where
-    go : Is (joins x r) → length (x ∷ []) ≤ length (after x [] r)
+    go : Is (joins x r) → length (x ∷ []) ≤ length (pushAfter x [] r)
     go (on h) = rw h (omega arith)
     go (off h) = rw h (omega arith)
 after-grows x (y ∷ ys) r = let h = after-grows y ys r in omega arith
@@ -124,7 +124,7 @@ push-grows (x ∷ xs) r = after-grows x xs r
 extend-grows : (backing : ℕ → Backing) (l : List FlatRange) (n m : ℕ) (b : Resolved) → length l ≤ length (extend backing l n m b)
 unfolding extend
 extend-grows backing l n m Nothing = omega arith
-extend-grows backing l n m (At k o) = push-grows l (rangeAt backing n m k (o .0))
+extend-grows backing l n m (At k o) = push-grows l (rangeFor backing n m k (o .0))
 
 flat-more : (backing : ℕ → Backing) (f : ℕ → Resolved) (n d : ℕ) → length (flat backing f n) ≤ length (flat backing f (n + d))
 unfolding flat

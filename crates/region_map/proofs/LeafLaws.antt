@@ -1,15 +1,15 @@
 -- What the walk answers is a leaf: a region below or at the one asked, that is no container and no alias, at an offset below its size. Assumes nothing.
 use mathlib.Core.Path.{_≡_, refl, subst}
-use mathlib.Core.Bool.{Bool, true, false, cond}
+use mathlib.Core.Bool.{Bool, true, false, cond, _||_}
 use Prim.Native.Nat.{ℕ, zero, suc, _+_, _-_, _%_, _≤_, _<_}
 use native.Mathlib.Omega.{arith}
-use borrow.Author.Tests.{eqb-true, eqb-false, leb-false}
+use borrow.Author.Tests.{eqb-true, eqb-false, leb-false, leb-true}
 use lib.Dec.{eqb, leb}
-use Rattle.map_records.specs.Map.{container, alias, region}
+use Rattle.map_records.specs.Map.{container, ram, mmio, alias, managed, hasMemory, region}
 use Rattle.map_check.specs.Check.{Accepted}
 use Rattle.region_map.specs.Visibility.{LeafOf}
 use Rattle.map_check.specs.Clash.{priorityOf}
-use Rattle.region_map.specs.Walk.{ranked, orElse, holds, asked, own, answer, tried, visit, walkBelow, walk, walkRoot, walkBy, walkRootBy}
+use Rattle.region_map.specs.Walk.{ranked, orElse, holds, asked, own, rankAnswer, tried, walkAt, walkBelow, walk, walkRoot, walkBy, walkRootBy}
 use Rattle.map_records.specs.declared.map.RegionMap.{RegionMap}
 use Rattle.map_records.specs.declared.map.RegionOffset.{RegionOffset}
 use Rattle.region_map.specs.declared.resolve.Resolved.{Resolved}
@@ -51,7 +51,7 @@ module _ (m : RegionMap) where
 
   in-tried : (u : ℕ → ℕ → Resolved) (n : ℕ) → ((c x : ℕ) → Within n (u c x)) → (r a : ℕ) → a < region m n .size → (region m n .kind ≡ alias → ⊥)
       → Within (suc n) (tried priorityOf m u n r a)
-  unfolding tried answer asked
+  unfolding tried rankAnswer asked
   in-tried u n w zero a h i = in-own n a h i
   in-tried u n w (suc r) a h i =
       let x : Resolved = u (r % 32) (a - region m (r % 32) .offset) in
@@ -60,8 +60,8 @@ module _ (m : RegionMap) where
       (chosen (suc n) (holds m (r % 32) a) x Nothing (wider n (suc n) x (omega arith) (w (r % 32) (a - region m (r % 32) .offset))) tt) tt)
       (in-tried u n w r a h i)
 
-  in-visit : (u : ℕ → ℕ → Resolved) (n : ℕ) → ((c x : ℕ) → Within n (u c x)) → (a : ℕ) → Within (suc n) (visit priorityOf m u n a)
-  unfolding visit
+  in-visit : (u : ℕ → ℕ → Resolved) (n : ℕ) → ((c x : ℕ) → Within n (u c x)) → (a : ℕ) → Within (suc n) (walkAt priorityOf m u n a)
+  unfolding walkAt
   in-visit u n w a = go (leb (region m n .size) a) refl (eqb (region m n .kind) alias) refl
     where
       go : (b : Bool) → leb (region m n .size) a ≡ b → (d : Bool) → eqb (region m n .kind) alias ≡ d
@@ -75,14 +75,23 @@ module _ (m : RegionMap) where
   in-below zero c a = tt
   in-below (suc k) c a = go (eqb c k) refl (in-below k c a) (in-visit (walkBelow priorityOf m k) k (in-below k) a)
     where
-      go : (b : Bool) → eqb c k ≡ b → Within k (walkBelow priorityOf m k c a) → Within (suc k) (visit priorityOf m (walkBelow priorityOf m k) k a)
-          → Within (suc k) (cond b (visit priorityOf m (walkBelow priorityOf m k) c a) (walkBelow priorityOf m k c a))
+      go : (b : Bool) → eqb c k ≡ b → Within k (walkBelow priorityOf m k c a) → Within (suc k) (walkAt priorityOf m (walkBelow priorityOf m k) k a)
+          → Within (suc k) (cond b (walkAt priorityOf m (walkBelow priorityOf m k) c a) (walkBelow priorityOf m k c a))
       go true e p q = rw (eqb-true c k e) q
       go false e p q = wider k (suc k) (walkBelow priorityOf m k c a) (omega arith) p
 
   pub in-walk : (n a : ℕ) → Within (suc n) (walk m n a)
   unfolding walkBy
   in-walk n a = in-visit (walkBelow priorityOf m n) n (in-below n) a
+
+-- a kind that is no container, alias or MMIO has memory
+leaf-memory : (k : ℕ) → k ≤ managed → (k ≡ container → ⊥) → (k ≡ alias → ⊥) → (k ≡ mmio → ⊥) → hasMemory k ≡ true
+leaf-memory k h p q r = go (eqb k ram) refl (eqb k managed) refl
+  where
+    go : (x : Bool) → eqb k ram ≡ x → (y : Bool) → eqb k managed ≡ y → (x || y) ≡ true
+    go true e y f = refl
+    go false e true f = refl
+    go false e false f = absurd (omega (arith, eqb-false k ram e, eqb-false k managed f))
 
 -- from the root of an accepted map
 pub root-leaf : (m : RegionMap) (memory : ℕ) → Accepted m memory → (a n : ℕ) (o : RegionOffset) → walkRoot m a ≡ At n o → LeafOf m n (o .0)
@@ -92,7 +101,7 @@ root-leaf m memory ok a n o e =
     let some = s .some in
     let w : Leaf m (suc (m .count - 1)) n (o .0) = subst (Within m (suc (m .count - 1))) e (in-walk m (m .count - 1) a) in
     let low : n < m .count = omega (arith, w .below) in
-    let top = s .kinds n low in
+    let top = leb-true (region m n .kind) managed (s .kinds n low) in
     let nc = w .«not-container» in
     let na = w .«not-alias» in
-    record { below = low; inside = w .inside; kinds = λ p q. omega arith }
+    record { below = low; inside = w .inside; kinds = λ q. leaf-memory (region m n .kind) top nc na q }

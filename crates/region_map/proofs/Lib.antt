@@ -14,4 +14,4 @@ pub mod ViewLaws
 mod ViewWords
 pub mod Visibility
 pub mod WalkLaws
-mod WindowLaws
+mod SpanLaws

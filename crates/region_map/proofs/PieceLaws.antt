@@ -13,8 +13,8 @@ use Rattle.region_map.specs.declared.resolve.Resolved.{Resolved}
 use Rattle.region_map.specs.declared.resolve.Resolved.the-variants.{Nothing, At}
 use Rattle.region_map.specs.declared.pieces.Piece.{Piece}
 use Rattle.region_map.specs.Walk.{orElse}
-use Rattle.region_map.specs.Pieces.{countOf, horizonOf, startOf, firstOf, endOf, regionOf, offsetOf, window, itself, pieceGives, given, shown, PieceIs, Begun, Pieces, Behind, Spot, pieceWords, Moved, Fits}
-use Rattle.region_map.proofs.WindowLaws.{window-before, window-past, or-nothing}
+use Rattle.region_map.specs.Pieces.{countOf, horizonOf, startOf, pieceFirst, pieceEnd, pieceRegion, pieceOffset, inSpan, itself, pieceGives, given, shown, PieceIs, BegunTable, Pieces, Behind, PieceSpot, pieceWords, Moved, Fits, pieceTableLength}
+use Rattle.region_map.proofs.SpanLaws.{span-before, span-past, or-nothing}
 
 side : (e n : ℕ) → (e < n) ⊎ (n ≤ e)
 side e n = ⊎-elim (λ z. inr (omega arith)) (λ p. inl (omega arith)) (eq-zero-or-pos (n - e))
@@ -26,7 +26,7 @@ word-at w j k e = ap (λ (x : ℕ). getD w x 0) e
 
 -- An empty table.
 
-module _ (w : List ℕ) (s e : ℕ) (size : length w ≡ 1027) where
+module _ (w : List ℕ) (s e : ℕ) (size : length w ≡ pieceTableLength) where
   count-begun : countOf (set (set (set w 0 0) 1 e) 2 s) ≡ 0
   count-begun =
       getD-set-other (set (set w 0 0) 1 e) 2 0 s 0 (λ h. omega arith) ∙ getD-set-other (set w 0 0) 1 0 e 0 (λ h. omega arith)
@@ -41,10 +41,10 @@ module _ (w : List ℕ) (s e : ℕ) (size : length w ≡ 1027) where
   start-begun =
       getD-set-same (set (set w 0 0) 1 e) 2 s 0 (omega (arith, length-set w 0 0, length-set (set w 0 0) 1 e))
 
-  size-begun : length (set (set (set w 0 0) 1 e) 2 s) ≡ 1027
+  size-begun : length (set (set (set w 0 0) 1 e) 2 s) ≡ pieceTableLength
   size-begun = simp length-set size
 
-empty : (v : List ℕ) (s e : ℕ) → length v ≡ 1027 → countOf v ≡ 0 → horizonOf v ≡ e → startOf v ≡ s → s < e → e ≤ 2 ^ 48 → Pieces v
+empty : (v : List ℕ) (s e : ℕ) → length v ≡ pieceTableLength → countOf v ≡ 0 → horizonOf v ≡ e → startOf v ≡ s → s < e → e ≤ 2 ^ 48 → Pieces v
 empty v s e size count horizon start ahead far = record {
   size = size;
   few = omega arith;
@@ -58,7 +58,7 @@ empty v s e size count horizon start ahead far = record {
   regions = λ i h. absurd (omega arith);
 }
 
-pub begin-empty : (w : List ℕ) (s e : ℕ) → length w ≡ 1027 → s < e → e ≤ 2 ^ 48 → Begun s e (set (set (set w 0 0) 1 e) 2 s)
+pub begin-empty : (w : List ℕ) (s e : ℕ) → length w ≡ pieceTableLength → s < e → e ≤ 2 ^ 48 → BegunTable s e (set (set (set w 0 0) 1 e) 2 s)
 begin-empty w s e size ahead far = record {
   kept = empty (set (set (set w 0 0) 1 e) 2 s) s e (size-begun w s e size) (count-begun w s e size) (horizon-begun w s e size) (start-begun w s e size) ahead far;
   none = count-begun w s e size;
@@ -155,13 +155,13 @@ module _ (v : List ℕ) (k : ℕ) (p : Piece) where
 -- What pieces give.
 
 pub record Same (v : List ℕ) (j : ℕ) (w : List ℕ) (k : ℕ) : Type 0 where
-  pub first : firstOf v j ≡ firstOf w k
-  pub end : endOf v j ≡ endOf w k
-  pub region : regionOf v j ≡ regionOf w k
-  pub offset : offsetOf v j ≡ offsetOf w k
+  pub first : pieceFirst v j ≡ pieceFirst w k
+  pub end : pieceEnd v j ≡ pieceEnd w k
+  pub region : pieceRegion v j ≡ pieceRegion w k
+  pub offset : pieceOffset v j ≡ pieceOffset w k
 
-window-eq : {r r′ f f′ o o′ e e′ : ℕ} (a : ℕ) → r ≡ r′ → f ≡ f′ → o ≡ o′ → e ≡ e′ → window (itself r) f o e a ≡ window (itself r′) f′ o′ e′ a
-window-eq a p q s t = λ i. window (itself (p i)) (q i) (s i) (t i) a
+window-eq : {r r′ f f′ o o′ e e′ : ℕ} (a : ℕ) → r ≡ r′ → f ≡ f′ → o ≡ o′ → e ≡ e′ → inSpan (itself r) f o e a ≡ inSpan (itself r′) f′ o′ e′ a
+window-eq a p q s t = λ i. inSpan (itself (p i)) (q i) (s i) (t i) a
 
 same-gives : {v w : List ℕ} {j k : ℕ} (a : ℕ) → Same v j w k → pieceGives v j a ≡ pieceGives w k a
 same-gives a s = window-eq a (s .region) (s .first) (s .offset) (s .end)
@@ -193,7 +193,7 @@ given-past v w i a x g e (suc k) up apart =
 
 -- the table u has room at place i
 pub record Ready (w : List ℕ) (i m h : ℕ) (u : List ℕ) : Type 0 where
-  pub size : length u ≡ 1027
+  pub size : length u ≡ pieceTableLength
   pub count : countOf u ≡ m + 1
   pub horizon : horizonOf u ≡ h
   pub start : startOf u ≡ startOf w
@@ -201,18 +201,18 @@ pub record Ready (w : List ℕ) (i m h : ℕ) (u : List ℕ) : Type 0 where
   pub up : (k : ℕ) → 3 + 4 * i ≤ k → k < 3 + 4 * m → getD u (k + 4) 0 ≡ getD w k 0
 
 pub record Placed (w : List ℕ) (i m h : ℕ) (p : Piece) (v : List ℕ) : Type 0 where
-  pub size : length v ≡ 1027
+  pub size : length v ≡ pieceTableLength
   pub count : countOf v ≡ m + 1
   pub horizon : horizonOf v ≡ h
   pub start : startOf v ≡ startOf w
   pub low : (j : ℕ) → j < i → Same v j w j
-  pub first : firstOf v i ≡ p .first .0
-  pub end : endOf v i ≡ p .end .0
-  pub region : regionOf v i ≡ p .region
-  pub offset : offsetOf v i ≡ p .offset .0
+  pub first : pieceFirst v i ≡ p .first .0
+  pub end : pieceEnd v i ≡ p .end .0
+  pub region : pieceRegion v i ≡ p .region
+  pub offset : pieceOffset v i ≡ p .offset .0
   pub up : (j : ℕ) → i ≤ j → j < m → Same v (suc j) w j
 
-pub ready-room : (w v : List ℕ) (i n : ℕ) → length w ≡ 1027 → Moved w i n v → Ready w i n (horizonOf w) (set v 0 (n + 1))
+pub ready-room : (w v : List ℕ) (i n : ℕ) → length w ≡ pieceTableLength → Moved w i n v → Ready w i n (horizonOf w) (set v 0 (n + 1))
 ready-room w v i n size m = record {
   size = length-set v 0 (n + 1) ∙ m .size ∙ size;
   count = getD-set-same v 0 (n + 1) 0 (omega (arith, m .size));
@@ -222,7 +222,7 @@ ready-room w v i n size m = record {
   up = λ k g h. getD-set-other v 0 (k + 4) (n + 1) 0 (λ e. omega arith) ∙ m .up k g h;
 }
 
-pub ready-full : (w v : List ℕ) (i x : ℕ) → length w ≡ 1027 → countOf w ≡ 256 → Moved (set w 1 x) i 255 v → Ready w i 255 x v
+pub ready-full : (w v : List ℕ) (i x : ℕ) → length w ≡ pieceTableLength → countOf w ≡ 256 → Moved (set w 1 x) i 255 v → Ready w i 255 x v
 ready-full w v i x size full m = record {
   size = m .size ∙ length-set w 1 x ∙ size;
   count = m .low 0 (omega arith) ∙ getD-set-other w 1 0 x 0 (λ e. omega arith) ∙ full;
@@ -277,17 +277,17 @@ places i m P low here up j h = ⊎-elim
     (side j i)
 
 record Good (v : List ℕ) (j : ℕ) : Type 0 where
-  from : startOf v ≤ firstOf v j
-  near : firstOf v j < horizonOf v
-  order : firstOf v j < endOf v j
-  end : endOf v j ≤ 2 ^ 48
-  region : regionOf v j < 32
+  from : startOf v ≤ pieceFirst v j
+  near : pieceFirst v j < horizonOf v
+  order : pieceFirst v j < pieceEnd v j
+  end : pieceEnd v j ≤ 2 ^ 48
+  region : pieceRegion v j < 32
 
-module _ (w : List ℕ) (i m h : ℕ) (p : Piece) (v : List ℕ) (t : Pieces w) (f : Fits w i p) (d : Placed w i m h p v) (im : i ≤ m) (few : m ≤ 255) (mc : m ≤ countOf w) (hw : h ≤ horizonOf w) (pf : p .first .0 < h) (nearer : (j : ℕ) → j < m → firstOf w j < h) where
-  new-before : (j : ℕ) → i ≤ j → j < m → p .end .0 ≤ firstOf w j
+module _ (w : List ℕ) (i m h : ℕ) (p : Piece) (v : List ℕ) (t : Pieces w) (f : Fits w i p) (d : Placed w i m h p v) (im : i ≤ m) (few : m ≤ 255) (mc : m ≤ countOf w) (hw : h ≤ horizonOf w) (pf : p .first .0 < h) (nearer : (j : ℕ) → j < m → pieceFirst w j < h) where
+  new-before : (j : ℕ) → i ≤ j → j < m → p .end .0 ≤ pieceFirst w j
   new-before j g l = ⊎-elim
       (λ lt. omega (arith, f .after (omega arith), t .order i (omega arith), t .apart i j lt (omega arith)))
-      (λ le. let e : i ≡ j = omega arith in subst (λ (x : ℕ). p .end .0 ≤ firstOf w x) e (f .after (omega arith)))
+      (λ le. let e : i ≡ j = omega arith in subst (λ (x : ℕ). p .end .0 ≤ pieceFirst w x) e (f .after (omega arith)))
       (side i j)
 
   good-same : (j k : ℕ) → k < m → Same v j w k → Good v j
@@ -311,11 +311,11 @@ module _ (w : List ℕ) (i m h : ℕ) (p : Piece) (v : List ℕ) (t : Pieces w) 
   good : (j : ℕ) → j < countOf v → Good v j
   good j l = places i m (Good v) (λ k b. good-same k k (omega arith) (d .low k b)) good-new (λ k g b. good-same (suc k) k b (d .up k g b)) j (omega (arith, d .count))
 
-  new-apart : (j k : ℕ) → j < k → k < m + 1 → endOf v j ≤ firstOf v k
-  new-apart j k jk l = places i m (λ (x : ℕ). (y : ℕ) → y < x → endOf v y ≤ firstOf v x)
+  new-apart : (j k : ℕ) → j < k → k < m + 1 → pieceEnd v j ≤ pieceFirst v k
+  new-apart j k jk l = places i m (λ (x : ℕ). (y : ℕ) → y < x → pieceEnd v y ≤ pieceFirst v x)
       (λ x b y yx. omega (arith, d .low x b .first, d .low y (omega arith) .end, t .apart y x yx (omega arith)))
       (λ y yi. omega (arith, d .first, d .low y yi .end, f .before y yi))
-      (λ x g b y yx. places i x (λ (z : ℕ). endOf v z ≤ firstOf v (suc x))
+      (λ x g b y yx. places i x (λ (z : ℕ). pieceEnd v z ≤ pieceFirst v (suc x))
       (λ z zi. omega (arith, d .low z zi .end, d .up x g b .first, t .apart z x (omega arith) (omega arith)))
       (omega (arith, d .end, d .up x g b .first, new-before x g b))
       (λ z iz zx. omega (arith, d .up z iz (omega arith) .end, d .up x g b .first, t .apart z x zx (omega arith)))
@@ -336,9 +336,9 @@ module _ (w : List ℕ) (i m h : ℕ) (p : Piece) (v : List ℕ) (t : Pieces w) 
     regions = λ j l. good j l .region;
   }
 
-  new-gives : (a : ℕ) → given v (m + 1) a ≡ orElse (given w m a) (window (itself (p .region)) (p .first .0) (p .offset .0) (p .end .0) a)
+  new-gives : (a : ℕ) → given v (m + 1) a ≡ orElse (given w m a) (inSpan (itself (p .region)) (p .first .0) (p .offset .0) (p .end .0) a)
   new-gives a =
-      let x : Resolved = window (itself (p .region)) (p .first .0) (p .offset .0) (p .end .0) a in
+      let x : Resolved = inSpan (itself (p .region)) (p .first .0) (p .offset .0) (p .end .0) a in
       let e : i + (m - i) ≡ m = omega arith in
       rw add-one
       (subst (λ (y : ℕ). given v (suc y) a ≡ orElse (given w y a) x) e
@@ -348,26 +348,26 @@ module _ (w : List ℕ) (i m h : ℕ) (p : Piece) (v : List ℕ) (t : Pieces w) 
       (m - i)
       (λ j g l. same-gives a (d .up j g (omega arith)))
       (λ j g l. ⊎-elim
-      (λ b. inl (window-before (itself (regionOf w j)) (firstOf w j) (offsetOf w j) (endOf w j) a (omega (arith, new-before j g (omega arith)))))
-      (λ b. inr (window-past (itself (p .region)) (p .first .0) (p .offset .0) (p .end .0) a b))
+      (λ b. inl (span-before (itself (pieceRegion w j)) (pieceFirst w j) (pieceOffset w j) (pieceEnd w j) a (omega (arith, new-before j g (omega arith)))))
+      (λ b. inr (span-past (itself (p .region)) (p .first .0) (p .offset .0) (p .end .0) a b))
       (side a (p .end .0)))))
 
-  pub new-behind : ((a : ℕ) → a < h → shown w a ≡ given w m a) → Behind w (window (itself (p .region)) (p .first .0) (p .offset .0) (p .end .0)) v
+  pub new-behind : ((a : ℕ) → a < h → shown w a ≡ given w m a) → Behind w (inSpan (itself (p .region)) (p .first .0) (p .offset .0) (p .end .0)) v
   new-behind beyond = record {
     kept = new-pieces;
     start = d .start;
     within = omega (arith, d .horizon);
     gives = λ a l.
         ap (λ (k : ℕ). given v k a) (d .count) ∙ new-gives a
-        ∙ ap (λ (y : Resolved). orElse y (window (itself (p .region)) (p .first .0) (p .offset .0) (p .end .0) a)) (sym (beyond a (omega (arith, d .horizon))));
+        ∙ ap (λ (y : Resolved). orElse y (inSpan (itself (p .region)) (p .first .0) (p .offset .0) (p .end .0) a)) (sym (beyond a (omega (arith, d .horizon))));
   }
 
-  pub new-spot : Spot v (p .end .0) (i + 1)
+  pub new-spot : PieceSpot v (p .end .0) (i + 1)
   new-spot = record {
     bound = omega (arith, d .count);
     before = λ j l. ⊎-elim
         (λ b. omega (arith, d .low j b .end, f .before j b, f .some))
-        (λ b. let e : i ≡ j = omega arith in subst (λ (x : ℕ). endOf v x ≤ p .end .0) e (omega (arith, d .end)))
+        (λ b. let e : i ≡ j = omega arith in subst (λ (x : ℕ). pieceEnd v x ≤ p .end .0) e (omega (arith, d .end)))
         (side j i);
     after = λ l.
         let b : i < m = omega (arith, d .count) in
@@ -381,16 +381,16 @@ unfolding given
 given-suc w k a = rw add-one
 
 -- below the first of the last piece that piece gives nothing
-given-less : (w : List ℕ) (k a : ℕ) → a < firstOf w k → given w (k + 1) a ≡ given w k a
+given-less : (w : List ℕ) (k a : ℕ) → a < pieceFirst w k → given w (k + 1) a ≡ given w k a
 given-less w k a l =
-    given-suc w k a ∙ ap (λ (x : Resolved). orElse (given w k a) x) (window-before (itself (regionOf w k)) (firstOf w k) (offsetOf w k) (endOf w k) a l)
+    given-suc w k a ∙ ap (λ (x : Resolved). orElse (given w k a) x) (span-before (itself (pieceRegion w k)) (pieceFirst w k) (pieceOffset w k) (pieceEnd w k) a l)
     ∙ or-nothing (given w k a)
 
 module _ (w : List ℕ) (i : ℕ) (p : Piece) (u v : List ℕ) (t : Pieces w) (f : Fits w i p) (put : v ≡ sets u (3 + 4 * i) (pieceWords p)) where
   put-placed : (m h : ℕ) → Ready w i m h u → Placed w i m h p v
   put-placed m h r = subst (λ (x : List ℕ). Placed w i m h p x) (sym put) (placed w i m h p u (f .room) r)
 
-  pub insert-room : Ready w i (countOf w) (horizonOf w) u → (countOf w ≡ 256 → ⊥) → Behind w (window (itself (p .region)) (p .first .0) (p .offset .0) (p .end .0)) v × Spot v (p .end .0) (i + 1)
+  pub insert-room : Ready w i (countOf w) (horizonOf w) u → (countOf w ≡ 256 → ⊥) → Behind w (inSpan (itself (p .region)) (p .first .0) (p .offset .0) (p .end .0)) v × PieceSpot v (p .end .0) (i + 1)
   insert-room r some =
       let d = put-placed (countOf w) (horizonOf w) r in
       let few : countOf w ≤ 255 = omega (arith, t .few) in (
@@ -398,16 +398,16 @@ module _ (w : List ℕ) (i : ℕ) (p : Piece) (u v : List ℕ) (t : Pieces w) (f
         new-spot w i (countOf w) (horizonOf w) p v t f d (f .place) few (omega arith) (omega arith) (f .near) (t .near),
       )
 
-  pub insert-full : Ready w i 255 (getD w 1023 0) u → countOf w ≡ 256 → Behind w (window (itself (p .region)) (p .first .0) (p .offset .0) (p .end .0)) v × Spot v (p .end .0) (i + 1)
+  pub insert-full : Ready w i 255 (getD w 1023 0) u → countOf w ≡ 256 → Behind w (inSpan (itself (p .region)) (p .first .0) (p .offset .0) (p .end .0)) v × PieceSpot v (p .end .0) (i + 1)
   insert-full r full =
-      let d = put-placed 255 (firstOf w 255) r in
+      let d = put-placed 255 (pieceFirst w 255) r in
       let im : i ≤ 255 = omega (arith, f .room) in
-      let hw : firstOf w 255 ≤ horizonOf w = omega (arith, t .near 255 (omega arith)) in
-      let nearer : (j : ℕ) → j < 255 → firstOf w j < firstOf w 255 = λ j l. omega (arith, t .order j (omega arith), t .apart j 255 l (omega arith)) in
-      let pf : p .first .0 < firstOf w 255 = ⊎-elim
+      let hw : pieceFirst w 255 ≤ horizonOf w = omega (arith, t .near 255 (omega arith)) in
+      let nearer : (j : ℕ) → j < 255 → pieceFirst w j < pieceFirst w 255 = λ j l. omega (arith, t .order j (omega arith), t .apart j 255 l (omega arith)) in
+      let pf : p .first .0 < pieceFirst w 255 = ⊎-elim
       (λ l. omega (arith, f .some, f .after (omega arith), nearer i l))
-      (λ g. let e : i ≡ 255 = omega arith in omega (arith, f .some, subst (λ (x : ℕ). p .end .0 ≤ firstOf w x) e (f .after (omega arith))))
+      (λ g. let e : i ≡ 255 = omega arith in omega (arith, f .some, subst (λ (x : ℕ). p .end .0 ≤ pieceFirst w x) e (f .after (omega arith))))
       (side i 255) in (
-        new-behind w i 255 (firstOf w 255) p v t f d im (omega arith) (omega arith) hw pf nearer (λ a l. ap (λ (k : ℕ). given w k a) full ∙ given-less w 255 a l),
-        new-spot w i 255 (firstOf w 255) p v t f d im (omega arith) (omega arith) hw pf nearer,
+        new-behind w i 255 (pieceFirst w 255) p v t f d im (omega arith) (omega arith) hw pf nearer (λ a l. ap (λ (k : ℕ). given w k a) full ∙ given-less w 255 a l),
+        new-spot w i 255 (pieceFirst w 255) p v t f d im (omega arith) (omega arith) hw pf nearer,
       )

@@ -16,7 +16,7 @@ use Rattle.region_map.specs.Walk.{ranked, orElse, walkBelow, walk, walkR
 use Rattle.map_check.specs.Contracts.{Walkable}
 use Rattle.region_map.specs.Contracts.{shift, NextChild, Grew, Pushed, triedIn, answerIn}
 use Rattle.region_map.specs.FlatList.{extend, flat}
-use Rattle.region_map.specs.Pieces.{countOf, horizonOf, startOf, firstOf, endOf, regionOf, offsetOf, window, itself, pieceGives, given, shown, Pieces, Behind, Whole}
+use Rattle.region_map.specs.Pieces.{countOf, horizonOf, startOf, pieceFirst, pieceEnd, pieceRegion, pieceOffset, inSpan, itself, pieceGives, given, shown, Pieces, Behind, WholeTable}
 use Rattle.map_records.specs.declared.map.Region.{Region}
 use Rattle.map_records.specs.declared.map.RegionMap.{RegionMap}
 use Rattle.region_map.specs.declared.resolve.Resolved.{Resolved}
@@ -24,7 +24,7 @@ use Rattle.region_map.specs.declared.resolve.Resolved.the-variants.{Noth
 use Rattle.region_map.specs.declared.flat.Backing.{Backing}
 use Rattle.map_records.specs.declared.view.FlatRange.{FlatRange}
 use Rattle.region_map.proofs.WalkLaws.{past, child-at, child-before, walk-alias, walk-inside, own-is, own-none, tried-none, tried-next}
-use Rattle.region_map.proofs.WindowLaws.{window-in, window-before, window-past, or-nothing}
+use Rattle.region_map.proofs.SpanLaws.{span-in, span-before, span-past, or-nothing}
 use Rattle.map_check.proofs.Bools.{or-left, or-right}
 use Rattle.region_map.proofs.ViewLaws.{turned}
 
@@ -38,44 +38,44 @@ orElse-assoc (At n o) y z = refl
 
 module _ (f : ℕ → Resolved) (first offset end a : ℕ) where
   -- by cases
-  window-is : (x : Resolved) → (first ≤ a → a < end → f (offset + (a - first)) ≡ x) → (a < first → Nothing ≡ x) → (end ≤ a → Nothing ≡ x) → window f first offset end a ≡ x
-  window-is x inner low high = go (leb first a) (ltb a end) refl refl
+  span-is : (x : Resolved) → (first ≤ a → a < end → f (offset + (a - first)) ≡ x) → (a < first → Nothing ≡ x) → (end ≤ a → Nothing ≡ x) → inSpan f first offset end a ≡ x
+  span-is x inner low high = go (leb first a) (ltb a end) refl refl
     where
-      go : (b t : Bool) → leb first a ≡ b → ltb a end ≡ t → window f first offset end a ≡ x
-      go true true p q = window-in f first offset end a (leb-true first a p) (ltb-true a end q) ∙ inner (leb-true first a p) (ltb-true a end q)
-      go true false p q = window-past f first offset end a (ltb-false a end q) ∙ high (ltb-false a end q)
-      go false t p q = window-before f first offset end a (leb-false first a p) ∙ low (leb-false first a p)
+      go : (b t : Bool) → leb first a ≡ b → ltb a end ≡ t → inSpan f first offset end a ≡ x
+      go true true p q = span-in f first offset end a (leb-true first a p) (ltb-true a end q) ∙ inner (leb-true first a p) (ltb-true a end q)
+      go true false p q = span-past f first offset end a (ltb-false a end q) ∙ high (ltb-false a end q)
+      go false t p q = span-before f first offset end a (leb-false first a p) ∙ low (leb-false first a p)
 
-window-ext : (f g : ℕ → Resolved) → ((x : ℕ) → f x ≡ g x) → (first offset end a : ℕ) → window f first offset end a ≡ window g first offset end a
-window-ext f g e first offset end a = window-is f first offset end a _
-    (λ h k. e _ ∙ sym (window-in g first offset end a h k)) (λ h. sym (window-before g first offset end a h)) (λ h. sym (window-past g first offset end a h))
+span-ext : (f g : ℕ → Resolved) → ((x : ℕ) → f x ≡ g x) → (first offset end a : ℕ) → inSpan f first offset end a ≡ inSpan g first offset end a
+span-ext f g e first offset end a = span-is f first offset end a _
+    (λ h k. e _ ∙ sym (span-in g first offset end a h k)) (λ h. sym (span-before g first offset end a h)) (λ h. sym (span-past g first offset end a h))
 
-window-nothing : (f : ℕ → Resolved) → ((x : ℕ) → f x ≡ Nothing) → (first offset end a : ℕ) → window f first offset end a ≡ Nothing
-window-nothing f e first offset end a = window-is f first offset end a _ (λ h k. e _) (λ h. refl) (λ h. refl)
+span-nothing : (f : ℕ → Resolved) → ((x : ℕ) → f x ≡ Nothing) → (first offset end a : ℕ) → inSpan f first offset end a ≡ Nothing
+span-nothing f e first offset end a = span-is f first offset end a _ (λ h k. e _) (λ h. refl) (λ h. refl)
 
-window-orElse : (f g : ℕ → Resolved) (first offset end a : ℕ) → window (λ x. orElse (f x) (g x)) first offset end a ≡ orElse (window f first offset end a) (window g first offset end a)
-window-orElse f g first offset end a = window-is (λ x. orElse (f x) (g x)) first offset end a _
-    (λ h k. rw (window-in f first offset end a h k, window-in g first offset end a h k))
-    (λ h. rw (window-before f first offset end a h, window-before g first offset end a h))
-    (λ h. rw (window-past f first offset end a h, window-past g first offset end a h))
+span-orElse : (f g : ℕ → Resolved) (first offset end a : ℕ) → inSpan (λ x. orElse (f x) (g x)) first offset end a ≡ orElse (inSpan f first offset end a) (inSpan g first offset end a)
+span-orElse f g first offset end a = span-is (λ x. orElse (f x) (g x)) first offset end a _
+    (λ h k. rw (span-in f first offset end a h k, span-in g first offset end a h k))
+    (λ h. rw (span-before f first offset end a h, span-before g first offset end a h))
+    (λ h. rw (span-past f first offset end a h, span-past g first offset end a h))
 
 -- f is g, k further on, below its size, and nothing past it
-window-clip : (f g : ℕ → Resolved) (size k : ℕ) → ((x : ℕ) → x < size → f x ≡ g (x + k)) → ((x : ℕ) → size ≤ x → f x ≡ Nothing)
+span-clip : (f g : ℕ → Resolved) (size k : ℕ) → ((x : ℕ) → x < size → f x ≡ g (x + k)) → ((x : ℕ) → size ≤ x → f x ≡ Nothing)
     → (first offset end r : ℕ) → first ≤ end → offset ≤ size → r ≤ end - first → r ≤ size - offset → (r < end - first → size - offset ≤ r)
-    → (a : ℕ) → window f first offset end a ≡ window g first (offset + k) (first + r) a
-window-clip f g size k e none first offset end r o s l m n a = window-is f first offset end a _ inner
-    (λ h. sym (window-before g first (offset + k) (first + r) a h)) (λ h. sym (window-past g first (offset + k) (first + r) a (omega arith)))
+    → (a : ℕ) → inSpan f first offset end a ≡ inSpan g first (offset + k) (first + r) a
+span-clip f g size k e none first offset end r o s l m n a = span-is f first offset end a _ inner
+    (λ h. sym (span-before g first (offset + k) (first + r) a h)) (λ h. sym (span-past g first (offset + k) (first + r) a (omega arith)))
   where
-    inner : first ≤ a → a < end → f (offset + (a - first)) ≡ window g first (offset + k) (first + r) a
+    inner : first ≤ a → a < end → f (offset + (a - first)) ≡ inSpan g first (offset + k) (first + r) a
     inner h t = go (decLt a (first + r))
       where
-        go : Dec (a < first + r) → f (offset + (a - first)) ≡ window g first (offset + k) (first + r) a
+        go : Dec (a < first + r) → f (offset + (a - first)) ≡ inSpan g first (offset + k) (first + r) a
         go (yes q) =
             let p : offset + (a - first) + k ≡ offset + k + (a - first) = omega arith in
-            e (offset + (a - first)) (omega arith) ∙ ap g p ∙ sym (window-in g first (offset + k) (first + r) a h q)
+            e (offset + (a - first)) (omega arith) ∙ ap g p ∙ sym (span-in g first (offset + k) (first + r) a h q)
         go (no q) =
             let z : size - offset ≤ r = n (omega arith) in
-            none (offset + (a - first)) (omega arith) ∙ sym (window-past g first (offset + k) (first + r) a (omega arith))
+            none (offset + (a - first)) (omega arith) ∙ sym (span-past g first (offset + k) (first + r) a (omega arith))
 
 -- What is put behind a table.
 
@@ -119,8 +119,8 @@ module _ (m : RegionMap) (n : ℕ) (x : Region) (same : x ≡ region m n) where
   past-size : (a : ℕ) → x .size ≤ a → walk m n a ≡ Nothing
   past-size = subst (λ (y : Region). (a : ℕ) → y .size ≤ a → walk m n a ≡ Nothing) (sym same) (past m n)
 
-  pub nothing-there : (w : List ℕ) (first offset end : ℕ) → Pieces w → (leb end first || leb (x .size) offset) ≡ true → Behind w (window (walk m n) first offset end) w
-  nothing-there w first offset end k e = behind-none w _ k (λ a h. window-is (walk m n) first offset end a Nothing (λ p q. go a p q (leb end first) refl e) (λ _. refl) (λ _. refl))
+  pub nothing-there : (w : List ℕ) (first offset end : ℕ) → Pieces w → (leb end first || leb (x .size) offset) ≡ true → Behind w (inSpan (walk m n) first offset end) w
+  nothing-there w first offset end k e = behind-none w _ k (λ a h. span-is (walk m n) first offset end a Nothing (λ p q. go a p q (leb end first) refl e) (λ _. refl) (λ _. refl))
     where
       go : (a : ℕ) → first ≤ a → a < end → (b : Bool) → leb end first ≡ b → (b || leb (x .size) offset) ≡ true → walk m n (offset + (a - first)) ≡ Nothing
       go a p q true t d = absurd (omega (arith, leb-true end first t))
@@ -129,39 +129,39 @@ module _ (m : RegionMap) (n : ℕ) (x : Region) (same : x ≡ region m n) where
 pub some-there : (size first offset end : ℕ) → (leb end first || leb size offset) ≡ false → (first < end) × (offset < size)
 some-there size first offset end e = (leb-false end first (or-left _ _ e), leb-false size offset (or-right (leb end first) _ e))
 
-pub not-reached : (f : ℕ → Resolved) (w : List ℕ) (first offset end : ℕ) → Pieces w → horizonOf w ≤ first → Behind w (window f first offset end) w
-not-reached f w first offset end k h = behind-none w _ k (λ a l. window-before f first offset end a (omega arith))
+pub not-reached : (f : ℕ → Resolved) (w : List ℕ) (first offset end : ℕ) → Pieces w → horizonOf w ≤ first → Behind w (inSpan f first offset end) w
+not-reached f w first offset end k h = behind-none w _ k (λ a l. span-before f first offset end a (omega arith))
 
 module _ (m : RegionMap) (n : ℕ) (x : Region) (same : x ≡ region m n) {w v : List ℕ} (first offset end r : ℕ) (nearer : r ≡ min (end - first) (x .size - offset)) (some : first < end) (inside : offset < x .size) where
-  pub through-alias : Walkable m → n < m .count → x .kind ≡ 3 → Behind w (window (walk m (x .target)) first (offset + x .«alias_offset») (first + r)) v
-      → Behind w (window (walk m n) first offset end) v
-  through-alias s i e b = behind-ext (window-clip (walk m n) (walk m (x .target)) (x .size) (x .«alias_offset»)
+  pub through-alias : Walkable m → n < m .count → x .kind ≡ 3 → Behind w (inSpan (walk m (x .target)) first (offset + x .«alias_offset») (first + r)) v
+      → Behind w (inSpan (walk m n) first offset end) v
+  through-alias s i e b = behind-ext (span-clip (walk m n) (walk m (x .target)) (x .size) (x .«alias_offset»)
       (subst (λ (y : Region). y .kind ≡ 3 → (a : ℕ) → a < y .size → walk m n a ≡ walk m (y .target) (a + y .«alias_offset»)) (sym same) (walk-alias m s n i) e)
       (past-size m n x same) first offset end r (omega arith) (omega arith) (omega arith) (omega arith) (λ h. omega arith)) b
 
-  pub through-children : (x .kind ≡ 3 → ⊥) → Behind w (window (triedIn m n 8192) first offset (first + r)) v
-      → Behind w (window (walk m n) first offset end) v
+  pub through-children : (x .kind ≡ 3 → ⊥) → Behind w (inSpan (triedIn m n 8192) first offset (first + r)) v
+      → Behind w (inSpan (walk m n) first offset end) v
   through-children e b =
       let z : offset + 0 ≡ offset = add-zero offset in
       let inner = subst (λ (y : Region). (y .kind ≡ 3 → ⊥) → (a : ℕ) → a < y .size → walk m n a ≡ triedIn m n 8192 a) (sym same) (walk-inside m n) e in
-      behind-ext (λ a. window-clip (walk m n) (triedIn m n 8192) (x .size) 0
+      behind-ext (λ a. span-clip (walk m n) (triedIn m n 8192) (x .size) 0
       (λ o h. inner o h ∙ ap (triedIn m n 8192) (sym (add-zero o))) (past-size m n x same) first offset end r (omega arith) (omega arith) (omega arith) (omega arith) (λ h. omega arith) a
-      ∙ ap (λ (o : ℕ). window (triedIn m n 8192) first o (first + r) a) z) b
+      ∙ ap (λ (o : ℕ). inSpan (triedIn m n 8192) first o (first + r) a) z) b
 
 -- The children of n, and n itself.
 
 module _ (m : RegionMap) (n b r first offset end : ℕ) (next : NextChild m n b r) where
-  pub the-node : {w v : List ℕ} (x : Region) → x ≡ region m n → r ≡ 0 → (x .kind ≡ 0 → ⊥) → Behind w (window (itself n) first offset end) v
-      → Behind w (window (triedIn m n b) first offset end) v
-  the-node x same e k d = behind-ext (window-ext (triedIn m n b) (itself n) (λ x. tried-none m _ n b r next e x ∙ own-is m n (λ z. k (ap (λ (y : Region). y .kind) same ∙ z)) x) first offset end) d
+  pub the-node : {w v : List ℕ} (x : Region) → x ≡ region m n → r ≡ 0 → (x .kind ≡ 0 → ⊥) → Behind w (inSpan (itself n) first offset end) v
+      → Behind w (inSpan (triedIn m n b) first offset end) v
+  the-node x same e k d = behind-ext (span-ext (triedIn m n b) (itself n) (λ x. tried-none m _ n b r next e x ∙ own-is m n (λ z. k (ap (λ (y : Region). y .kind) same ∙ z)) x) first offset end) d
 
-  pub no-node : (w : List ℕ) (x : Region) → x ≡ region m n → Pieces w → r ≡ 0 → x .kind ≡ 0 → Behind w (window (triedIn m n b) first offset end) w
-  no-node w x same p e k = behind-none w _ p (λ a h. window-nothing (triedIn m n b) (λ x. tried-none m _ n b r next e x ∙ own-none m n (sym (ap (λ (y : Region). y .kind) same) ∙ k) x) first offset end a)
+  pub no-node : (w : List ℕ) (x : Region) → x ≡ region m n → Pieces w → r ≡ 0 → x .kind ≡ 0 → Behind w (inSpan (triedIn m n b) first offset end) w
+  no-node w x same p e k = behind-none w _ p (λ a h. span-nothing (triedIn m n b) (λ x. tried-none m _ n b r next e x ∙ own-none m n (sym (ap (λ (y : Region). y .kind) same) ∙ k) x) first offset end a)
 
-  pub child-then : {w v u : List ℕ} → (r ≡ 0 → ⊥) → Behind w (window (answerIn m n (r - 1)) first offset end) v → Behind v (window (triedIn m n (r - 1)) first offset end) u
-      → Behind w (window (triedIn m n b) first offset end) u
-  child-then ne d g = behind-ext (λ a. window-ext (triedIn m n b) _ (tried-next m (walkBelow priorityOf m n) n b r next ne) first offset end a
-      ∙ window-orElse (answerIn m n (r - 1)) (triedIn m n (r - 1)) first offset end a) (behind-then d g)
+  pub child-then : {w v u : List ℕ} → (r ≡ 0 → ⊥) → Behind w (inSpan (answerIn m n (r - 1)) first offset end) v → Behind v (inSpan (triedIn m n (r - 1)) first offset end) u
+      → Behind w (inSpan (triedIn m n b) first offset end) u
+  child-then ne d g = behind-ext (λ a. span-ext (triedIn m n b) _ (tried-next m (walkBelow priorityOf m n) n b r next ne) first offset end a
+      ∙ span-orElse (answerIn m n (r - 1)) (triedIn m n (r - 1)) first offset end a) (behind-then d g)
 
 -- A child, which begins at or before the window, inside it, or not before its end.
 module _ (m : RegionMap) (n k : ℕ) (x : Region) (read : x ≡ region m (k % 32)) (first offset end : ℕ) (child : ranked priorityOf m n k ≡ true) where
@@ -171,59 +171,59 @@ module _ (m : RegionMap) (n k : ℕ) (x : Region) (read : x ≡ region m (k % 32
   before-child : (a : ℕ) → a < x .offset → answerIn m n k a ≡ Nothing
   before-child = subst (λ (y : Region). (a : ℕ) → a < y .offset → answerIn m n k a ≡ Nothing) (sym read) (child-before m n k child)
 
-  pub child-begun : {w v : List ℕ} → x .offset ≤ offset → Behind w (window (walk m (k % 32)) first (offset - x .offset) end) v
-      → Behind w (window (answerIn m n k) first offset end) v
+  pub child-begun : {w v : List ℕ} → x .offset ≤ offset → Behind w (inSpan (walk m (k % 32)) first (offset - x .offset) end) v
+      → Behind w (inSpan (answerIn m n k) first offset end) v
   child-begun h d = behind-ext same d
     where
-      same : (a : ℕ) → window (answerIn m n k) first offset end a ≡ window (walk m (k % 32)) first (offset - x .offset) end a
-      same a = window-is (answerIn m n k) first offset end a _
+      same : (a : ℕ) → inSpan (answerIn m n k) first offset end a ≡ inSpan (walk m (k % 32)) first (offset - x .offset) end a
+      same a = span-is (answerIn m n k) first offset end a _
           (λ p q.
           let z : offset + (a - first) - x .offset ≡ offset - x .offset + (a - first) = omega arith in
-          from-child (offset + (a - first)) (omega arith) ∙ ap (walk m (k % 32)) z ∙ sym (window-in (walk m (k % 32)) first (offset - x .offset) end a p q))
-          (λ p. sym (window-before (walk m (k % 32)) first (offset - x .offset) end a p))
-          (λ p. sym (window-past (walk m (k % 32)) first (offset - x .offset) end a p))
+          from-child (offset + (a - first)) (omega arith) ∙ ap (walk m (k % 32)) z ∙ sym (span-in (walk m (k % 32)) first (offset - x .offset) end a p q))
+          (λ p. sym (span-before (walk m (k % 32)) first (offset - x .offset) end a p))
+          (λ p. sym (span-past (walk m (k % 32)) first (offset - x .offset) end a p))
 
-  pub child-ahead : {w v : List ℕ} → offset < x .offset → Behind w (window (walk m (k % 32)) (first + (x .offset - offset)) 0 end) v
-      → Behind w (window (answerIn m n k) first offset end) v
+  pub child-ahead : {w v : List ℕ} → offset < x .offset → Behind w (inSpan (walk m (k % 32)) (first + (x .offset - offset)) 0 end) v
+      → Behind w (inSpan (answerIn m n k) first offset end) v
   child-ahead h d = behind-ext same d
     where
-      same : (a : ℕ) → window (answerIn m n k) first offset end a ≡ window (walk m (k % 32)) (first + (x .offset - offset)) 0 end a
-      same a = window-is (answerIn m n k) first offset end a _ (λ p q. inner p q (decLt a (first + (x .offset - offset))))
-          (λ p. sym (window-before (walk m (k % 32)) (first + (x .offset - offset)) 0 end a (omega arith)))
-          (λ p. sym (window-past (walk m (k % 32)) (first + (x .offset - offset)) 0 end a p))
+      same : (a : ℕ) → inSpan (answerIn m n k) first offset end a ≡ inSpan (walk m (k % 32)) (first + (x .offset - offset)) 0 end a
+      same a = span-is (answerIn m n k) first offset end a _ (λ p q. inner p q (decLt a (first + (x .offset - offset))))
+          (λ p. sym (span-before (walk m (k % 32)) (first + (x .offset - offset)) 0 end a (omega arith)))
+          (λ p. sym (span-past (walk m (k % 32)) (first + (x .offset - offset)) 0 end a p))
         where
-          inner : first ≤ a → a < end → Dec (a < first + (x .offset - offset)) → answerIn m n k (offset + (a - first)) ≡ window (walk m (k % 32)) (first + (x .offset - offset)) 0 end a
-          inner p q (yes l) = before-child (offset + (a - first)) (omega arith) ∙ sym (window-before (walk m (k % 32)) (first + (x .offset - offset)) 0 end a l)
+          inner : first ≤ a → a < end → Dec (a < first + (x .offset - offset)) → answerIn m n k (offset + (a - first)) ≡ inSpan (walk m (k % 32)) (first + (x .offset - offset)) 0 end a
+          inner p q (yes l) = before-child (offset + (a - first)) (omega arith) ∙ sym (span-before (walk m (k % 32)) (first + (x .offset - offset)) 0 end a l)
           inner p q (no l) =
               let z : offset + (a - first) - x .offset ≡ 0 + (a - (first + (x .offset - offset))) = omega arith in
-              from-child (offset + (a - first)) (omega arith) ∙ ap (walk m (k % 32)) z ∙ sym (window-in (walk m (k % 32)) (first + (x .offset - offset)) 0 end a (omega arith) q)
+              from-child (offset + (a - first)) (omega arith) ∙ ap (walk m (k % 32)) z ∙ sym (span-in (walk m (k % 32)) (first + (x .offset - offset)) 0 end a (omega arith) q)
 
   pub child-beyond : (w : List ℕ) → Pieces w → offset < x .offset → end - first ≤ x .offset - offset
-      → Behind w (window (answerIn m n k) first offset end) w
-  child-beyond w s h l = behind-none w _ s (λ a i. window-is (answerIn m n k) first offset end a Nothing
+      → Behind w (inSpan (answerIn m n k) first offset end) w
+  child-beyond w s h l = behind-none w _ s (λ a i. span-is (answerIn m n k) first offset end a Nothing
       (λ p q. before-child (offset + (a - first)) (omega arith)) (λ p. refl) (λ p. refl))
 
 -- What the pieces give an address: nothing between them, and inside one the piece.
 
-given-none : (w : List ℕ) (k a : ℕ) → ((j : ℕ) → j < k → (endOf w j ≤ a) ⊎ (a < firstOf w j)) → given w k a ≡ Nothing
+given-none : (w : List ℕ) (k a : ℕ) → ((j : ℕ) → j < k → (pieceEnd w j ≤ a) ⊎ (a < pieceFirst w j)) → given w k a ≡ Nothing
 unfolding given
 given-none w zero a h = refl
 given-none w (suc k) a h =
     let piece : pieceGives w k a ≡ Nothing = ⊎-elim
-    (λ l. window-past (itself (regionOf w k)) (firstOf w k) (offsetOf w k) (endOf w k) a l)
-    (λ l. window-before (itself (regionOf w k)) (firstOf w k) (offsetOf w k) (endOf w k) a l)
+    (λ l. span-past (itself (pieceRegion w k)) (pieceFirst w k) (pieceOffset w k) (pieceEnd w k) a l)
+    (λ l. span-before (itself (pieceRegion w k)) (pieceFirst w k) (pieceOffset w k) (pieceEnd w k) a l)
     (h k (omega arith)) in
     rw (given-none w k a (λ j l. h j (omega arith))) piece
 
-given-at : (w : List ℕ) (i k a : ℕ) → i < k → ((j : ℕ) → j < i → endOf w j ≤ a) → firstOf w i ≤ a → a < endOf w i
-    → given w k a ≡ itself (regionOf w i) (offsetOf w i + (a - firstOf w i))
+given-at : (w : List ℕ) (i k a : ℕ) → i < k → ((j : ℕ) → j < i → pieceEnd w j ≤ a) → pieceFirst w i ≤ a → a < pieceEnd w i
+    → given w k a ≡ itself (pieceRegion w i) (pieceOffset w i + (a - pieceFirst w i))
 unfolding given
 given-at w i zero a l before h t = absurd (not-suc-le-zero l)
 given-at w i (suc k) a l before h t = go (ℕ-discrete i k) (λ p. given-at w i k a p before h t)
   where
-    go : Dec (i ≡ k) → (i < k → given w k a ≡ itself (regionOf w i) (offsetOf w i + (a - firstOf w i)))
-        → orElse (given w k a) (pieceGives w k a) ≡ itself (regionOf w i) (offsetOf w i + (a - firstOf w i))
-    go (yes e) ih = rw (← e, given-none w i a (λ j p. inl (before j p))) (window-in (itself (regionOf w i)) (firstOf w i) (offsetOf w i) (endOf w i) a h t)
+    go : Dec (i ≡ k) → (i < k → given w k a ≡ itself (pieceRegion w i) (pieceOffset w i + (a - pieceFirst w i)))
+        → orElse (given w k a) (pieceGives w k a) ≡ itself (pieceRegion w i) (pieceOffset w i + (a - pieceFirst w i))
+    go (yes e) ih = rw (← e, given-none w i a (λ j p. inl (before j p))) (span-in (itself (pieceRegion w i)) (pieceFirst w i) (pieceOffset w i) (pieceEnd w i) a h t)
     go (no e) ih = rw (ih (omega arith))
 
 -- The flat list does not grow where nothing answers.
@@ -243,8 +243,8 @@ pub record Emitted (backing : ℕ → Backing) (f : ℕ → Resolved) (w : List 
   pub at : ℕ
   pub low : startOf w ≤ at
   pub high : at ≤ horizonOf w
-  pub passed : (j : ℕ) → j < i → at < horizonOf w → endOf w j ≤ at
-  pub left : (j : ℕ) → i ≤ j → j < countOf w → at ≤ firstOf w j
+  pub passed : (j : ℕ) → j < i → at < horizonOf w → pieceEnd w j ≤ at
+  pub left : (j : ℕ) → i ≤ j → j < countOf w → at ≤ pieceFirst w j
   pub list : l ≡ flat backing f at
 
 module _ (backing : ℕ → Backing) (f : ℕ → Resolved) (w : List ℕ) (good : Pieces w) where
@@ -258,63 +258,63 @@ module _ (backing : ℕ → Backing) (f : ℕ → Resolved) (w : List ℕ) (good
     list = e;
   }
 
-  module _ (whole : Whole f w) where
+  module _ (whole : WholeTable f w) where
     pub all-emitted : (i : ℕ) (l : List FlatRange) → countOf w ≤ i → Emitted backing f w i l → l ≡ flat backing f (horizonOf w)
     all-emitted i l h e = e .list ∙ sym (flat-same backing f (e .at) (horizonOf w) (e .high) (λ a p q.
         sym (whole .gives a (omega (arith, e .low)) q)
         ∙ given-none w (countOf w) a (λ j k. inl (omega (arith, e .passed j (omega arith) (omega arith))))))
 
     module _ (i : ℕ) (l : List FlatRange) (some : i < countOf w) (e : Emitted backing f w i l) (stop : ℕ)
-        (one : stop ≤ endOf w i) (two : stop ≤ horizonOf w) (less : stop < endOf w i → horizonOf w ≤ stop) where
-      more : firstOf w i < stop
-      more = go (decLt (firstOf w i) stop)
+        (one : stop ≤ pieceEnd w i) (two : stop ≤ horizonOf w) (less : stop < pieceEnd w i → horizonOf w ≤ stop) where
+      more : pieceFirst w i < stop
+      more = go (decLt (pieceFirst w i) stop)
         where
-          go : Dec (firstOf w i < stop) → firstOf w i < stop
+          go : Dec (pieceFirst w i < stop) → pieceFirst w i < stop
           go (yes h) = h
           go (no h) = absurd (omega (arith, less (omega (arith, good .order i some)), good .near i some))
 
       -- up to the piece
-      piece-list : l ≡ flat backing f (firstOf w i)
-      piece-list = e .list ∙ sym (flat-same backing f (e .at) (firstOf w i) (e .left i (omega arith) some) (λ a p q.
+      piece-list : l ≡ flat backing f (pieceFirst w i)
+      piece-list = e .list ∙ sym (flat-same backing f (e .at) (pieceFirst w i) (e .left i (omega arith) some) (λ a p q.
           sym (whole .gives a (omega (arith, e .low)) (omega (arith, good .near i some)))
           ∙ given-none w (countOf w) a (λ j k. go a p q j k (decLt j i))))
         where
-          go : (a : ℕ) → e .at ≤ a → a < firstOf w i → (j : ℕ) → j < countOf w → Dec (j < i) → (endOf w j ≤ a) ⊎ (a < firstOf w j)
+          go : (a : ℕ) → e .at ≤ a → a < pieceFirst w i → (j : ℕ) → j < countOf w → Dec (j < i) → (pieceEnd w j ≤ a) ⊎ (a < pieceFirst w j)
           go a p q j k (yes h) = inl (omega (arith, e .passed j h (omega (arith, good .near i some))))
           go a p q j k (no h) = inr (later (ℕ-discrete i j))
             where
-              later : Dec (i ≡ j) → a < firstOf w j
-              later (yes z) = omega (arith, ap (firstOf w) z)
+              later : Dec (i ≡ j) → a < pieceFirst w j
+              later (yes z) = omega (arith, ap (pieceFirst w) z)
               later (no z) = omega (arith, good .apart i j (omega arith) k, good .order i some)
 
-      piece-at : (a : ℕ) → firstOf w i ≤ a → a < stop → f a ≡ itself (regionOf w i) (offsetOf w i + (a - firstOf w i))
+      piece-at : (a : ℕ) → pieceFirst w i ≤ a → a < stop → f a ≡ itself (pieceRegion w i) (pieceOffset w i + (a - pieceFirst w i))
       piece-at a p q = sym (whole .gives a (omega (arith, good .from i some)) (omega arith))
           ∙ given-at w i (countOf w) a some (λ j h. omega (arith, good .apart j i h some)) p (omega arith)
 
-      piece-first : itself (regionOf w i) (offsetOf w i) ≡ f (firstOf w i)
+      piece-first : itself (pieceRegion w i) (pieceOffset w i) ≡ f (pieceFirst w i)
       piece-first =
-          let z : offsetOf w i + (firstOf w i - firstOf w i) ≡ offsetOf w i = omega arith in
-          sym (piece-at (firstOf w i) (omega arith) more ∙ ap (itself (regionOf w i)) z)
+          let z : pieceOffset w i + (pieceFirst w i - pieceFirst w i) ≡ pieceOffset w i = omega arith in
+          sym (piece-at (pieceFirst w i) (omega arith) more ∙ ap (itself (pieceRegion w i)) z)
 
-      piece-run : (d : ℕ) → d < stop - firstOf w i → f (firstOf w i + d) ≡ shift d (f (firstOf w i))
+      piece-run : (d : ℕ) → d < stop - pieceFirst w i → f (pieceFirst w i + d) ≡ shift d (f (pieceFirst w i))
       piece-run d h =
-          let z : offsetOf w i + (firstOf w i + d - firstOf w i) ≡ offsetOf w i + d = omega arith in
-          piece-at (firstOf w i + d) (omega arith) (omega arith) ∙ ap (itself (regionOf w i)) z ∙ ap (shift d) piece-first
+          let z : pieceOffset w i + (pieceFirst w i + d - pieceFirst w i) ≡ pieceOffset w i + d = omega arith in
+          piece-at (pieceFirst w i + d) (omega arith) (omega arith) ∙ ap (itself (pieceRegion w i)) z ∙ ap (shift d) piece-first
 
       -- and the piece
-      grew-there : (p : Pushed) → Grew (extend backing l (firstOf w i) (stop - 1) (itself (regionOf w i) (offsetOf w i))) p → Grew (flat backing f stop) p
+      grew-there : (p : Pushed) → Grew (extend backing l (pieceFirst w i) (stop - 1) (itself (pieceRegion w i) (pieceOffset w i))) p → Grew (flat backing f stop) p
       grew-there p g =
-          let more′ : firstOf w i < stop = more in
-          let last : stop - 1 ≡ firstOf w i + (stop - firstOf w i - 1) = omega arith in
-          let z : firstOf w i + (stop - firstOf w i) ≡ stop = omega arith in
+          let more′ : pieceFirst w i < stop = more in
+          let last : stop - 1 ≡ pieceFirst w i + (stop - pieceFirst w i - 1) = omega arith in
+          let z : pieceFirst w i + (stop - pieceFirst w i) ≡ stop = omega arith in
           subst (λ (x : ℕ). Grew (flat backing f x) p) z
-          (turned backing f (firstOf w i) (stop - firstOf w i) l (itself (regionOf w i) (offsetOf w i)) p piece-list piece-first (omega arith) piece-run
-          (subst (λ (x : ℕ). Grew (extend backing l (firstOf w i) x (itself (regionOf w i) (offsetOf w i))) p) last g))
+          (turned backing f (pieceFirst w i) (stop - pieceFirst w i) l (itself (pieceRegion w i) (pieceOffset w i)) p piece-list piece-first (omega arith) piece-run
+          (subst (λ (x : ℕ). Grew (extend backing l (pieceFirst w i) x (itself (pieceRegion w i) (pieceOffset w i))) p) last g))
 
-      pub piece-grew : (p : Pushed) (first region offset : ℕ) → first ≡ firstOf w i → region ≡ regionOf w i → offset ≡ offsetOf w i
+      pub piece-grew : (p : Pushed) (first region offset : ℕ) → first ≡ pieceFirst w i → region ≡ pieceRegion w i → offset ≡ pieceOffset w i
           → Grew (extend backing l first (stop - 1) (itself region offset)) p → Grew (flat backing f stop) p
-      piece-grew p first region offset a b c g = grew-there p (subst (λ (x : ℕ). Grew (extend backing l x (stop - 1) (itself (regionOf w i) (offsetOf w i))) p) a
-          (subst (λ (x : ℕ). Grew (extend backing l first (stop - 1) (itself x (offsetOf w i))) p) b
+      piece-grew p first region offset a b c g = grew-there p (subst (λ (x : ℕ). Grew (extend backing l x (stop - 1) (itself (pieceRegion w i) (pieceOffset w i))) p) a
+          (subst (λ (x : ℕ). Grew (extend backing l first (stop - 1) (itself x (pieceOffset w i))) p) b
           (subst (λ (x : ℕ). Grew (extend backing l first (stop - 1) (itself region x)) p) c g)))
 
       pub one-emitted : (k : List FlatRange) → k ≡ flat backing f stop → Emitted backing f w (i + 1) k
@@ -327,29 +327,29 @@ module _ (backing : ℕ → Backing) (f : ℕ → Resolved) (w : List ℕ) (good
         list = q;
       }
         where
-          go : (j : ℕ) → j < i + 1 → stop < horizonOf w → Dec (j ≡ i) → endOf w j ≤ stop
-          go j h t (yes z) = go-end (decLt stop (endOf w i))
+          go : (j : ℕ) → j < i + 1 → stop < horizonOf w → Dec (j ≡ i) → pieceEnd w j ≤ stop
+          go j h t (yes z) = go-end (decLt stop (pieceEnd w i))
             where
-              go-end : Dec (stop < endOf w i) → endOf w j ≤ stop
+              go-end : Dec (stop < pieceEnd w i) → pieceEnd w j ≤ stop
               go-end (yes b) = absurd (omega (arith, less b))
-              go-end (no b) = omega (arith, ap (endOf w) z)
+              go-end (no b) = omega (arith, ap (pieceEnd w) z)
           go j h t (no z) = omega (arith, good .apart j i (omega arith) some, more)
 
 -- The table of a sweep's turn.
 
 whole-root : (m : RegionMap) (w v : List ℕ) (at offset end : ℕ) → countOf w ≡ 0 → startOf w ≡ at → horizonOf w ≡ end → offset ≡ at
-    → Behind w (window (walk m (m .count - 1)) at offset end) v → Whole (walkRoot m) v
+    → Behind w (inSpan (walk m (m .count - 1)) at offset end) v → WholeTable (walkRoot m) v
 unfolding walkRootBy given
 whole-root m w v at offset end none start horizon same b = record {
   gives = λ a h k.
       let z : offset + (a - at) ≡ a = omega (arith, b .start) in
       let empty : shown w a ≡ Nothing = ap (λ (n : ℕ). given w n a) none in
-      b .gives a k ∙ ap (λ (x : Resolved). orElse x (window (walk m (m .count - 1)) at offset end a)) empty
-      ∙ window-in (walk m (m .count - 1)) at offset end a (omega (arith, b .start)) (omega (arith, b .within)) ∙ ap (walk m (m .count - 1)) z;
+      b .gives a k ∙ ap (λ (x : Resolved). orElse x (inSpan (walk m (m .count - 1)) at offset end a)) empty
+      ∙ span-in (walk m (m .count - 1)) at offset end a (omega (arith, b .start)) (omega (arith, b .within)) ∙ ap (walk m (m .count - 1)) z;
 }
 
 -- the same with the root's number as it was read
 pub whole-from : (m : RegionMap) (n : ℕ) → n ≡ m .count - 1 → (w v : List ℕ) (at offset end : ℕ) → countOf w ≡ 0 → startOf w ≡ at → horizonOf w ≡ end → offset ≡ at
-    → Behind w (window (walk m n) at offset end) v → Whole (walkRoot m) v
+    → Behind w (inSpan (walk m n) at offset end) v → WholeTable (walkRoot m) v
 whole-from m n e w v at offset end none start horizon same b =
-    whole-root m w v at offset end none start horizon same (subst (λ (k : ℕ). Behind w (window (walk m k) at offset end) v) e b)
+    whole-root m w v at offset end none start horizon same (subst (λ (k : ℕ). Behind w (inSpan (walk m k) at offset end) v) e b)

@@ -10,7 +10,7 @@ use Rattle.region_map.specs.declared.flat.Backing.{Backing}
 use lib.ListN.{length, getD}
 use Rattle.map_records.specs.View.{noRange}
 use Rattle.map_records.specs.declared.view.FlatRange.{FlatRange}
-use Rattle.region_map.specs.FlatList.{answerOf, lookup, Entry, Chain, Longest}
+use Rattle.region_map.specs.FlatList.{rangeAnswer, lookup, ValuedEntry, LongestFrom, Longest}
 use Rattle.map_check.proofs.Bools.{never}
 use Rattle.region_map.proofs.RangeTests.{on-joins, inside-on, inside-before, inside-beyond}
 
@@ -21,31 +21,31 @@ offset-in (At k o) = o .0
 apart : {k o : ℕ} → At k (record { 0 = o }) ≡ Nothing → ⊥
 apart h = let z : _≡_ {A = ℕ} 0 1 = cc in omega arith
 
-pub sound : {backing : ℕ → Backing} (x : FlatRange) (xs : List FlatRange) → Chain backing x xs → Entry backing x
+pub sound : {backing : ℕ → Backing} (x : FlatRange) (xs : List FlatRange) → LongestFrom backing x xs → ValuedEntry backing x
 sound x [] c = c
 sound x (y ∷ ys) c = c .0
 
 module _ (backing : ℕ → Backing) where
   -- the k-th entry
-  pub entry-at : (l : List FlatRange) (k : ℕ) → Longest backing l → k < length l → Entry backing (getD l k noRange)
+  pub entry-at : (l : List FlatRange) (k : ℕ) → Longest backing l → k < length l → ValuedEntry backing (getD l k noRange)
   entry-at [] k c h = absurd (omega arith)
   entry-at (x ∷ xs) zero c h = sound x xs c
   entry-at (x ∷ []) (suc k) c h = absurd (omega arith)
   entry-at (x ∷ (y ∷ ys)) (suc k) c h = entry-at (y ∷ ys) k (c .2) (omega arith)
 
   -- below the first entry a list gives nothing
-  pub low : (x : FlatRange) (xs : List FlatRange) (a : ℕ) → Chain backing x xs → a < x .first .0 → lookup (x ∷ xs) a ≡ Nothing
+  pub low : (x : FlatRange) (xs : List FlatRange) (a : ℕ) → LongestFrom backing x xs → a < x .first .0 → lookup (x ∷ xs) a ≡ Nothing
   unfolding lookup
   low x [] a c h = rw (inside-before x a h)
   low x (y ∷ ys) a c h = rw (inside-before x a h) (low y ys a (c .2) (omega (arith, c .0 .order, c .1 .above)))
 
   -- up to the end of the entry before it a tail gives nothing
-  tail-low : (x : FlatRange) (xs : List FlatRange) (a : ℕ) → Chain backing x xs → a ≤ x .last .0 → lookup xs a ≡ Nothing
+  tail-low : (x : FlatRange) (xs : List FlatRange) (a : ℕ) → LongestFrom backing x xs → a ≤ x .last .0 → lookup xs a ≡ Nothing
   unfolding lookup
   tail-low x [] a c h = refl
   tail-low x (y ∷ ys) a c h = low y ys a (c .2) (omega (arith, c .1 .above))
 
-  pub here : (x : FlatRange) (xs : List FlatRange) (a : ℕ) → x .first .0 ≤ a → a ≤ x .last .0 → lookup (x ∷ xs) a ≡ answerOf x a
+  pub here : (x : FlatRange) (xs : List FlatRange) (a : ℕ) → x .first .0 ≤ a → a ≤ x .last .0 → lookup (x ∷ xs) a ≡ rangeAnswer x a
   unfolding lookup
   here x xs a h k = rw (inside-on x a h k)
 
@@ -54,26 +54,26 @@ module _ (backing : ℕ → Backing) where
   later x xs a h = rw (inside-beyond x a h)
 
   -- right after an entry its list does not give the same node at the next offset
-  ends : (x : FlatRange) (xs : List FlatRange) → Chain backing x xs
-      → lookup xs (x .last .0 + 1) ≡ answerOf x (x .last .0 + 1) → ⊥
+  ends : (x : FlatRange) (xs : List FlatRange) → LongestFrom backing x xs
+      → lookup xs (x .last .0 + 1) ≡ rangeAnswer x (x .last .0 + 1) → ⊥
   unfolding lookup offset-in
   ends x [] c h = apart (sym h)
   ends x (y ∷ ys) c h = go (decLt (x .last .0 + 1) (y .first .0))
     where
-      s : Entry backing y
+      s : ValuedEntry backing y
       s = sound y ys (c .2)
 
       go : Dec (x .last .0 + 1 < y .first .0) → ⊥
       go (yes q) = apart (sym h ∙ low y ys (x .last .0 + 1) (c .2) q)
       go (no q) =
           let n : y .first .0 ≡ x .last .0 + 1 = omega (arith, c .1 .above) in
-          let e : answerOf y (x .last .0 + 1) ≡ answerOf x (x .last .0 + 1) =
+          let e : rangeAnswer y (x .last .0 + 1) ≡ rangeAnswer x (x .last .0 + 1) =
           sym (here y ys (x .last .0 + 1) (omega arith) (omega (arith, s .order))) ∙ h in
           let k : y .region ≡ x .region = cc in
           let o : y .offset .0 + (x .last .0 + 1 - y .first .0) ≡ x .offset .0 + (x .last .0 + 1 - x .first .0) = ap offset-in e in
           never (sym (on-joins x y (record { next = n; region = k; offset = omega (arith, c .0 .order) })) ∙ c .1 .split)
 
-  module _ (x : FlatRange) (xs : List FlatRange) (y : FlatRange) (ys : List FlatRange) (c : Chain backing x xs) (d : Chain backing y ys) where
+  module _ (x : FlatRange) (xs : List FlatRange) (y : FlatRange) (ys : List FlatRange) (c : LongestFrom backing x xs) (d : LongestFrom backing y ys) where
     first-le : ((a : ℕ) → lookup (x ∷ xs) a ≡ lookup (y ∷ ys) a) → x .first .0 ≤ y .first .0
     first-le h = go (decLe (x .first .0) (y .first .0))
       where
@@ -89,18 +89,18 @@ module _ (backing : ℕ → Backing) where
         go (yes q) = q
         go (no q) =
             let a = x .last .0 + 1 in
-            let e : lookup xs (x .last .0 + 1) ≡ answerOf y (x .last .0 + 1) =
+            let e : lookup xs (x .last .0 + 1) ≡ rangeAnswer y (x .last .0 + 1) =
             sym (later x xs (x .last .0 + 1) (omega arith)) ∙ h (x .last .0 + 1)
             ∙ here y ys (x .last .0 + 1) (omega (arith, sound x xs c .order)) (omega arith) in
             absurd (ends x xs c (rw (p, n, o) e))
 
-  run-eq : (x y : FlatRange) → Entry backing x → Entry backing y → x .first .0 ≡ y .first .0 → x .last .0 ≡ y .last .0 → x .region ≡ y .region → x .offset .0 ≡ y .offset .0 → x ≡ y
+  run-eq : (x y : FlatRange) → ValuedEntry backing x → ValuedEntry backing y → x .first .0 ≡ y .first .0 → x .last .0 ≡ y .last .0 → x .region ≡ y .region → x .offset .0 ≡ y .offset .0 → x ≡ y
   run-eq x y s t p q n o =
       let k : x .kind ≡ y .kind = s .kind ∙ ap (λ m. backing m .kind) n ∙ sym (t .kind) in
       let b : x .base ≡ y .base = s .base ∙ ap (λ m. backing m .base) n ∙ sym (t .base) in
       λ i. record { first = record { 0 = p i }; last = record { 0 = q i }; region = n i; offset = record { 0 = o i }; kind = k i; base = b i }
 
-  heads-eq : (x : FlatRange) (xs : List FlatRange) (y : FlatRange) (ys : List FlatRange) → Chain backing x xs → Chain backing y ys
+  heads-eq : (x : FlatRange) (xs : List FlatRange) (y : FlatRange) (ys : List FlatRange) → LongestFrom backing x xs → LongestFrom backing y ys
       → ((a : ℕ) → lookup (x ∷ xs) a ≡ lookup (y ∷ ys) a) → x ≡ y
   unfolding offset-in
   heads-eq x xs y ys c d h =
@@ -109,7 +109,7 @@ module _ (backing : ℕ → Backing) where
       let p₁ = first-le x xs y ys c d h in
       let p₂ = first-le y ys x xs d c (λ a. sym (h a)) in
       let p : x .first .0 ≡ y .first .0 = omega arith in
-      let e : answerOf x (x .first .0) ≡ answerOf y (x .first .0) =
+      let e : rangeAnswer x (x .first .0) ≡ rangeAnswer y (x .first .0) =
       sym (here x xs (x .first .0) (omega arith) (sx .order)) ∙ h (x .first .0) ∙ here y ys (x .first .0) (omega arith) (omega (arith, sy .order)) in
       let n : x .region ≡ y .region = cc in
       let o′ : x .offset .0 + (x .first .0 - x .first .0) ≡ y .offset .0 + (x .first .0 - y .first .0) = ap offset-in e in
@@ -118,11 +118,11 @@ module _ (backing : ℕ → Backing) where
       let q₂ = last-le y ys x xs d c (λ a. sym (h a)) (sym p) (sym n) (sym o) in
       run-eq x y sx sy p (omega arith) n o
 
-  chain-tail : (x : FlatRange) (xs : List FlatRange) → Chain backing x xs → Longest backing xs
+  chain-tail : (x : FlatRange) (xs : List FlatRange) → LongestFrom backing x xs → Longest backing xs
   chain-tail x [] c = tt
   chain-tail x (y ∷ ys) c = c .2
 
-  tails : (x : FlatRange) (xs : List FlatRange) (y : FlatRange) (ys : List FlatRange) → Chain backing x xs → Chain backing y ys → x ≡ y
+  tails : (x : FlatRange) (xs : List FlatRange) (y : FlatRange) (ys : List FlatRange) → LongestFrom backing x xs → LongestFrom backing y ys → x ≡ y
       → ((a : ℕ) → lookup (x ∷ xs) a ≡ lookup (y ∷ ys) a) → (a : ℕ) → lookup xs a ≡ lookup ys a
   tails x xs y ys c d e h a = go (decLe a (x .last .0))
     where

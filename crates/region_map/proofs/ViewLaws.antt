@@ -17,14 +17,14 @@ use Rattle.region_map.specs.declared.flat.Backing.{Backing}
 use Rattle.map_records.specs.declared.view.FlatRange.{FlatRange}
 use Rattle.map_records.specs.declared.view.FlatView.{FlatView}
 use Rattle.region_map.specs.Contracts.{Pushed, shift, Blank, Grew}
-use Rattle.region_map.specs.FlatList.{joins, grown, after, push, extend, flat}
+use Rattle.region_map.specs.FlatList.{joins, grown, pushAfter, push, extend, flat}
 use Rattle.region_map.specs.Flatten.{viewHolding}
 use Rattle.map_records.specs.View.{entries, noRange}
 use Rattle.region_map.proofs.PushLaws.{after-on, after-off}
 use Rattle.region_map.proofs.FlatLaws.{flat-grows, sweep-step}
 
-after-snoc : (x : FlatRange) (xs : List FlatRange) (y r : FlatRange) → after x (xs ++ (y ∷ [])) r ≡ x ∷ push (xs ++ (y ∷ [])) r
-unfolding after push
+after-snoc : (x : FlatRange) (xs : List FlatRange) (y r : FlatRange) → pushAfter x (xs ++ (y ∷ [])) r ≡ x ∷ push (xs ++ (y ∷ [])) r
+unfolding pushAfter push
 after-snoc x [] y r = refl
 after-snoc x (z ∷ zs) y r = refl
 

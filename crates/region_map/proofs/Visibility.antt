@@ -14,7 +14,7 @@ use Rattle.map_check.specs.Clash.{priorityOf, siblingClash}
 use Rattle.map_check.specs.Check.{Accepted}
 use Rattle.map_check.specs.Sound.{Parented, Sound}
 use Rattle.region_map.specs.Visibility.{Holding, OneHolder, childAnswer, Visible}
-use Rattle.region_map.specs.Walk.{rank, child, ranked, orElse, holds, asked, own, answer, tried, walkBelow, walk}
+use Rattle.region_map.specs.Walk.{rank, child, ranked, orElse, holds, asked, own, rankAnswer, tried, walkBelow, walk}
 use Rattle.region_map.specs.Contracts.{triedIn, answerIn}
 use Rattle.map_records.specs.declared.map.RegionMap.{RegionMap}
 use Rattle.map_records.specs.declared.map.RegionOffset.{RegionOffset}
@@ -25,15 +25,15 @@ use Rattle.map_check.proofs.Accepted.{apart-siblings, accepted-sound, accepted-
 use Rattle.region_map.proofs.WalkLaws.{rank-mod, is-ranked, walk-below, walk-inside, walk-alias, past, priority-le}
 
 module _ (m : RegionMap) (u : ℕ → ℕ → Resolved) (n a : ℕ) where
-  tried-wins : (b r k : ℕ) (o : RegionOffset) → r < b → answer priorityOf m u n r a ≡ At k o → ((j : ℕ) → r < j → j < b → answer priorityOf m u n j a ≡ Nothing) → tried priorityOf m u n b a ≡ At k o
+  tried-wins : (b r k : ℕ) (o : RegionOffset) → r < b → rankAnswer priorityOf m u n r a ≡ At k o → ((j : ℕ) → r < j → j < b → rankAnswer priorityOf m u n j a ≡ Nothing) → tried priorityOf m u n b a ≡ At k o
   unfolding tried
   tried-wins zero r k o h e f = absurd (omega arith)
   tried-wins (suc b) r k o h e f =
-      ⊎-elim (λ (q : r ≡ b). ap (λ (x : Resolved). orElse x (tried priorityOf m u n b a)) (ap (λ (j : ℕ). answer priorityOf m u n j a) (sym q) ∙ e))
+      ⊎-elim (λ (q : r ≡ b). ap (λ (x : Resolved). orElse x (tried priorityOf m u n b a)) (ap (λ (j : ℕ). rankAnswer priorityOf m u n j a) (sym q) ∙ e))
       (λ (q : r < b). rw (f b q (omega arith)) (tried-wins b r k o q e (λ j p l. f j p (omega arith))))
       (eq-or-lt-of-le {n = r} {m = b} (omega arith))
 
-  tried-none : (b : ℕ) → ((j : ℕ) → j < b → answer priorityOf m u n j a ≡ Nothing) → tried priorityOf m u n b a ≡ own m n a
+  tried-none : (b : ℕ) → ((j : ℕ) → j < b → rankAnswer priorityOf m u n j a ≡ Nothing) → tried priorityOf m u n b a ≡ own m n a
   unfolding tried
   tried-none zero f = refl
   tried-none (suc b) f = rw (f b (omega arith)) (tried-none b (λ j l. f j (omega arith)))
@@ -58,7 +58,7 @@ held m n a j p q =
 -- what stands at a rank: nothing, or the answer of the child that has it
 module _ (m : RegionMap) (n a j : ℕ) where
   rank-answer : ((c : ℕ) → Holding m n a c → rank priorityOf m c ≡ j → childAnswer m (walk m) a c ≡ Nothing) → answerIn m n j a ≡ Nothing
-  unfolding answer asked
+  unfolding rankAnswer asked
   rank-answer f = go (ranked priorityOf m n j) refl (holds m (j % 32) a) refl
     where
       here : ranked priorityOf m n j ≡ true → holds m (j % 32) a ≡ true → walkBelow priorityOf m n (j % 32) (a - region m (j % 32) .offset) ≡ Nothing
@@ -74,7 +74,7 @@ module _ (m : RegionMap) (n a j : ℕ) where
 
   -- and the answer of a child at its own rank
   own-rank : (c : ℕ) → c < 32 → Holding m n a c → rank priorityOf m c ≡ j → answerIn m n j a ≡ childAnswer m (walk m) a c
-  unfolding answer asked holds
+  unfolding rankAnswer asked holds
   own-rank c l h e =
       rw (← e, is-ranked m n c (h .below) l (h .parent), rank-mod m c l, le-leb (region m c .offset) a (h .from), lt-ltb a (region m c .offset + region m c .size) (h .to))
       (walk-below m n c (a - region m c .offset) (h .below))
@@ -162,7 +162,7 @@ visibility m memory ok n a known =
 -- the child at a rank that answers
 answering : (m : RegionMap) (n a j k : ℕ) (o : RegionOffset) → answerIn m n j a ≡ At k o
     → Holding m n a (j % 32) × (rank priorityOf m (j % 32) ≡ j) × (childAnswer m (walk m) a (j % 32) ≡ At k o)
-unfolding answer asked
+unfolding rankAnswer asked
 answering m n a j k o = go (ranked priorityOf m n j) refl (holds m (j % 32) a) refl
   where
     go : (x : Bool) → ranked priorityOf m n j ≡ x → (y : Bool) → holds m (j % 32) a ≡ y

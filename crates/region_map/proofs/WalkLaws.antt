@@ -14,7 +14,7 @@ use Rattle.region_map.specs.declared.resolve.Resolved.the-variants.{Noth
 use Rattle.map_check.proofs.Bools.{and-fst, and-snd, and-no}
 use Rattle.map_records.specs.Map.{mmio, region}
 use Rattle.map_check.specs.Clash.{defaultOf, priorityOf}
-use Rattle.region_map.specs.Walk.{rank, child, ranked, orElse, holds, asked, own, answer, tried, visit, walkBelow, walk, walkBy}
+use Rattle.region_map.specs.Walk.{rank, child, ranked, orElse, holds, asked, own, rankAnswer, tried, walkAt, walkBelow, walk, walkBy}
 use Rattle.map_check.specs.Contracts.{Walkable}
 use Rattle.region_map.specs.Contracts.{NextChild, triedIn, answerIn}
 
@@ -73,14 +73,14 @@ unfolding walkBelow walkBy
 walk-below m zero c a h = absurd (omega arith)
 walk-below m (suc k) c a h = go (eqb c k) refl (walk-below m k c a)
   where
-    go : (b : Bool) → eqb c k ≡ b → (c < k → walkBelow priorityOf m k c a ≡ walk m c a) → cond b (visit priorityOf m (walkBelow priorityOf m k) c a) (walkBelow priorityOf m k c a) ≡ walk m c a
+    go : (b : Bool) → eqb c k ≡ b → (c < k → walkBelow priorityOf m k c a ≡ walk m c a) → cond b (walkAt priorityOf m (walkBelow priorityOf m k) c a) (walkBelow priorityOf m k c a) ≡ walk m c a
     go true e ih = rw (eqb-true c k e)
     go false e ih = ih (let ne : c ≡ k → ⊥ = eqb-false c k e in omega arith)
 
 -- Children that are passed over.
 
-none-ranked : (m : RegionMap) (u : ℕ → ℕ → Resolved) (n r a : ℕ) → ranked priorityOf m n r ≡ false → answer priorityOf m u n r a ≡ Nothing
-unfolding answer
+none-ranked : (m : RegionMap) (u : ℕ → ℕ → Resolved) (n r a : ℕ) → ranked priorityOf m n r ≡ false → rankAnswer priorityOf m u n r a ≡ Nothing
+unfolding rankAnswer
 none-ranked m u n r a e = rw e
 
 skip : (m : RegionMap) (u : ℕ → ℕ → Resolved) (n r a j : ℕ) → ((k : ℕ) → r ≤ k → k < r + j → ranked priorityOf m n k ≡ false) → tried priorityOf m u n (r + j) a ≡ tried priorityOf m u n r a
@@ -98,11 +98,11 @@ tried-skip m u n b r l h a =
 -- A child.
 
 pub past : (m : RegionMap) (n x : ℕ) → region m n .size ≤ x → walk m n x ≡ Nothing
-unfolding walkBy visit
+unfolding walkBy walkAt
 past m n x l = rw (le-leb _ _ l)
 
 pub child-at : (m : RegionMap) (n k : ℕ) → ranked priorityOf m n k ≡ true → (x : ℕ) → region m (k % 32) .offset ≤ x → answerIn m n k x ≡ walk m (k % 32) (x - region m (k % 32) .offset)
-unfolding answer asked holds
+unfolding rankAnswer asked holds
 child-at m n k e x h = rw (e, le-leb _ _ h) (go (ltb x (region m (k % 32) .offset + region m (k % 32) .size)) refl)
   where
     go : (b : Bool) → ltb x (region m (k % 32) .offset + region m (k % 32) .size) ≡ b → cond b (walkBelow priorityOf m n (k % 32) (x - region m (k % 32) .offset)) Nothing ≡ walk m (k % 32) (x - region m (k % 32) .offset)
@@ -110,7 +110,7 @@ child-at m n k e x h = rw (e, le-leb _ _ h) (go (ltb x (region m (k % 32) .offse
     go false t = sym (past m (k % 32) _ (omega (arith, ltb-false x (region m (k % 32) .offset + region m (k % 32) .size) t)))
 
 pub child-before : (m : RegionMap) (n k : ℕ) → ranked priorityOf m n k ≡ true → (x : ℕ) → x < region m (k % 32) .offset → answerIn m n k x ≡ Nothing
-unfolding answer asked holds
+unfolding rankAnswer asked holds
 child-before m n k e x h = rw (e, lt-leb _ _ h)
 
 -- A node itself.
@@ -126,11 +126,11 @@ own-none m n e x = rw (eq-eqb _ _ e)
 -- A node's walk.
 
 pub walk-alias : (m : RegionMap) → Walkable m → (n : ℕ) → n < m .count → region m n .kind ≡ 3 → (x : ℕ) → x < region m n .size → walk m n x ≡ walk m (region m n .target) (x + region m n .«alias_offset»)
-unfolding walkBy visit
+unfolding walkBy walkAt
 walk-alias m s n i e x h = rw (lt-leb _ _ h, eq-eqb _ _ e) (walk-below m n _ _ (s .targets n i e))
 
 pub walk-inside : (m : RegionMap) (n : ℕ) → (region m n .kind ≡ 3 → ⊥) → (x : ℕ) → x < region m n .size → walk m n x ≡ triedIn m n 8192 x
-unfolding walkBy visit
+unfolding walkBy walkAt
 walk-inside m n e x h = rw (lt-leb _ _ h, ne-eqb _ _ e)
 
 -- From what the search for the next child finds.
@@ -142,7 +142,7 @@ pub tried-none : (m : RegionMap) (u : ℕ → ℕ → Resolved) (n b r : ℕ) �
 unfolding tried
 tried-none m u n b r h e x = tried-skip m u n b r (h .within) (h .above) x ∙ ap (λ (j : ℕ). tried priorityOf m u n j x) e
 
-pub tried-next : (m : RegionMap) (u : ℕ → ℕ → Resolved) (n b r : ℕ) → NextChild m n b r → (r ≡ 0 → ⊥) → (x : ℕ) → tried priorityOf m u n b x ≡ orElse (answer priorityOf m u n (r - 1) x) (tried priorityOf m u n (r - 1) x)
+pub tried-next : (m : RegionMap) (u : ℕ → ℕ → Resolved) (n b r : ℕ) → NextChild m n b r → (r ≡ 0 → ⊥) → (x : ℕ) → tried priorityOf m u n b x ≡ orElse (rankAnswer priorityOf m u n (r - 1) x) (tried priorityOf m u n (r - 1) x)
 unfolding tried
 tried-next m u n b r h ne x =
     let e : r ≡ suc (r - 1) = omega arith in

@@ -9,9 +9,10 @@ use Rattle.map_records.specs.View.{noRange, rangeOf, entries}
 use Rattle.map_records.specs.Words.{mapOf, viewOf}
 use Rattle.map_check.specs.Clash.{priorityOf}
 use Rattle.map_check.specs.Contracts.{Tree}
-use Rattle.region_map.specs.Walk.{ranked, answer, tried, walkBelow, walkRoot}
+use Rattle.region_map.specs.Walk.{ranked, rankAnswer, tried, walkBelow, walkRoot}
 use Rattle.region_map.specs.Flatten.{flatBelow}
-use Rattle.region_map.specs.Pieces.{startOf, Pieces, Whole}
+use Rattle.region_map.specs.Pieces.{startOf, Pieces, WholeTable}
+use Rattle.map_records.specs.Limits.{mostRanges, mapLength, viewLength}
 use Rattle.map_records.specs.declared.map.RegionMap.{RegionMap}
 use Rattle.map_records.specs.declared.view.FlatRange.{FlatRange}
 use Rattle.map_records.specs.declared.view.FlatView.{FlatView}
@@ -25,7 +26,7 @@ abbrev pub triedIn : RegionMap → ℕ → ℕ → ℕ → Resolved
 triedIn m n r a = tried priorityOf m (walkBelow priorityOf m n) n r a
 
 abbrev pub answerIn : RegionMap → ℕ → ℕ → ℕ → Resolved
-answerIn m n r a = answer priorityOf m (walkBelow priorityOf m n) n r a
+answerIn m n r a = rankAnswer priorityOf m (walkBelow priorityOf m n) n r a
 
 -- region n of a map that can be gone through
 pub record InTree (w : List ℕ) (n : ℕ) : Type 0 where
@@ -47,12 +48,12 @@ shift d (At n o) = At n (record { 0 = o .0 + d })
 
 -- words of a view that has room for its count
 pub record Viewed (w : List ℕ) : Type 0 where
-  pub words : length w ≡ 1537
-  pub few : viewOf w .count ≤ 256
+  pub words : length w ≡ viewLength
+  pub few : viewOf w .count ≤ mostRanges
 
 -- 'no empty entry'
-abbrev pub Filled : FlatView → Type 0
-Filled v = (k : ℕ) → k < v .count → rangeOf v k .first .0 ≤ rangeOf v k .last .0
+abbrev pub NoEmptyRange : FlatView → Type 0
+NoEmptyRange v = (k : ℕ) → k < v .count → rangeOf v k .first .0 ≤ rangeOf v k .last .0
 
 -- a view after ranges were put behind it, and whether it was full
 pub record Pushed : Type 0 where
@@ -61,24 +62,24 @@ pub record Pushed : Type 0 where
 
 -- p holds the list l, or says that it has no room
 pub record Grew (l : List FlatRange) (p : Pushed) : Type 0 where
-  pub full : p .full ≡ ltb 256 (length l)
-  pub room : p .view .count ≤ 256
+  pub full : p .full ≡ ltb mostRanges (length l)
+  pub room : p .view .count ≤ mostRanges
   pub list : p .full ≡ false → entries (p .view) ≡ l
 
 -- what stands behind the entries is zero
 abbrev pub Blank : FlatView → Type 0
-Blank v = drop (v .count) (v .ranges) ≡ replicate (256 - v .count) noRange
+Blank v = drop (v .count) (v .ranges) ≡ replicate (mostRanges - v .count) noRange
 
 -- the same of a view as words: from `before` to `after`
 pub record Grows (l : List FlatRange) (before : List ℕ) (full : Bool) (after : List ℕ) : Type 0 where
   pub grew : Grew l (record { full = full; view = viewOf after })
   pub blank : Blank (viewOf before) → Blank (viewOf after)
-  pub words : length after ≡ 1537
+  pub words : length after ≡ viewLength
 
 -- a table that is whole from where the view of the same map ends
 pub record Emits (map view table : List ℕ) : Type 0 where
-  pub words : length map ≡ 289
+  pub words : length map ≡ mapLength
   pub room : Viewed view
   pub pieces : Pieces table
   pub list : entries (viewOf view) ≡ flatBelow (mapOf map) (startOf table)
-  pub whole : Whole (walkRoot (mapOf map)) table
+  pub whole : WholeTable (walkRoot (mapOf map)) table

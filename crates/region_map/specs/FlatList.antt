@@ -10,8 +10,8 @@ use Rattle.map_records.specs.declared.view.FlatRange.{FlatRange}
 use Rattle.region_map.specs.declared.flat.Backing.{Backing}
 
 -- a range of region k, from its offset o on, with the region's values
-abbrev pub rangeAt : (ℕ → Backing) → ℕ → ℕ → ℕ → ℕ → FlatRange
-rangeAt backing first last k o =
+abbrev pub rangeFor : (ℕ → Backing) → ℕ → ℕ → ℕ → ℕ → FlatRange
+rangeFor backing first last k o =
     record { first = record { 0 = first }; last = record { 0 = last }; region = k; offset = record { 0 = o }; kind = backing k .kind; base = backing k .base }
 
 -- 'goes on while the next address answers the same node at the next offset': r starts right after x, with x's region at the next offset
@@ -24,18 +24,18 @@ abbrev pub grown : FlatRange → FlatRange → FlatRange
 grown x r = record { first = x .first; last = r .last; region = x .region; offset = x .offset; kind = x .kind; base = x .base }
 
 -- r put behind the list x ∷ xs: the last range grows if the two join
-unfoldable pub after : FlatRange → List FlatRange → FlatRange → List FlatRange
-after x [] r = cond (joins x r) (grown x r ∷ []) (x ∷ r ∷ [])
-after x (y ∷ ys) r = x ∷ after y ys r
+unfoldable pub pushAfter : FlatRange → List FlatRange → FlatRange → List FlatRange
+pushAfter x [] r = cond (joins x r) (grown x r ∷ []) (x ∷ r ∷ [])
+pushAfter x (y ∷ ys) r = x ∷ pushAfter y ys r
 
 unfoldable pub push : List FlatRange → FlatRange → List FlatRange
 push [] r = r ∷ []
-push (x ∷ xs) r = after x xs r
+push (x ∷ xs) r = pushAfter x xs r
 
 -- the addresses from first to last, which answer as one run, put behind a list
 unfoldable pub extend : (ℕ → Backing) → List FlatRange → ℕ → ℕ → Resolved → List FlatRange
 extend backing l first last Nothing = l
-extend backing l first last (At k o) = push l (rangeAt backing first last k (o .0))
+extend backing l first last (At k o) = push l (rangeFor backing first last k (o .0))
 
 -- the ranges of the answers f at the first n addresses, one address after the other
 unfoldable pub flat : (ℕ → Backing) → (ℕ → Resolved) → ℕ → List FlatRange
@@ -46,16 +46,16 @@ unfoldable pub inside : FlatRange → ℕ → Bool
 inside x a = leb (x .first .0) a && leb a (x .last .0)
 
 -- 'the entry's node at offset + a - first'
-abbrev pub answerOf : FlatRange → ℕ → Resolved
-answerOf x a = At (x .region) (record { 0 = x .offset .0 + (a - x .first .0) })
+abbrev pub rangeAnswer : FlatRange → ℕ → Resolved
+rangeAnswer x a = At (x .region) (record { 0 = x .offset .0 + (a - x .first .0) })
 
 -- 'A list gives an address a in an entry (first to last) the entry's node at offset + a - first, and any other address nothing'
 unfoldable pub lookup : List FlatRange → ℕ → Resolved
 lookup [] a = Nothing
-lookup (x ∷ xs) a = cond (inside x a) (answerOf x a) (lookup xs a)
+lookup (x ∷ xs) a = cond (inside x a) (rangeAnswer x a) (lookup xs a)
 
 -- 'no empty entry', and one that 'carries these node values'
-pub record Entry (backing : ℕ → Backing) (x : FlatRange) : Type 0 where
+pub record ValuedEntry (backing : ℕ → Backing) (x : FlatRange) : Type 0 where
   pub order : x .first .0 ≤ x .last .0
   pub kind : x .kind ≡ backing (x .region) .kind
   pub base : x .base ≡ backing (x .region) .base
@@ -65,11 +65,11 @@ pub record Follows (x y : FlatRange) : Type 0 where
   pub above : x .last .0 < y .first .0
   pub split : joins x y ≡ false
 
-abbrev pub Chain : (ℕ → Backing) → FlatRange → List FlatRange → Type 0
-Chain backing x [] = Entry backing x
-Chain backing x (y ∷ ys) = Entry backing x × Follows x y × Chain backing y ys
+abbrev pub LongestFrom : (ℕ → Backing) → FlatRange → List FlatRange → Type 0
+LongestFrom backing x [] = ValuedEntry backing x
+LongestFrom backing x (y ∷ ys) = ValuedEntry backing x × Follows x y × LongestFrom backing y ys
 
 -- 'A list of longest runs'
 abbrev pub Longest : (ℕ → Backing) → List FlatRange → Type 0
 Longest backing [] = Unit {0}
-Longest backing (x ∷ xs) = Chain backing x xs
+Longest backing (x ∷ xs) = LongestFrom backing x xs

@@ -1,7 +1,8 @@
 -- Source 001's rules of visibility as document 01 gives them, with no word of ranks, and what a walk from the root can come to. Assumes nothing: these are definitions.
+use mathlib.Core.Bool.{true}
 use mathlib.Core.Path.{_≡_}
 use Prim.Native.Nat.{ℕ, _+_, _-_, _≤_, _<_}
-use Rattle.map_records.specs.Map.{ram, mmio, alias, managed, region}
+use Rattle.map_records.specs.Map.{mmio, alias, hasMemory, region}
 use Rattle.map_check.specs.Clash.{priorityOf}
 use Rattle.region_map.specs.Walk.{own}
 use Rattle.map_records.specs.declared.map.RegionMap.{RegionMap}
@@ -40,4 +41,4 @@ pub record Visible (m : RegionMap) (walked : ℕ → ℕ → Resolved) (n a : �
 pub record LeafOf (m : RegionMap) (n o : ℕ) : Type 0 where
   pub below : n < m .count
   pub inside : o < region m n .size
-  pub kinds : (region m n .kind ≡ ram → ⊥) → (region m n .kind ≡ mmio → ⊥) → region m n .kind ≡ managed
+  pub kinds : (region m n .kind ≡ mmio → ⊥) → hasMemory (region m n .kind) ≡ true

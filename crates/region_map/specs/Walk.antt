@@ -4,6 +4,7 @@ use Prim.Native.Nat.{ℕ, zero, suc, _+_, _-_, _*_, _%_}
 use lib.Dec.{eqb, leb, ltb}
 use Rattle.map_records.specs.Map.{container, alias, region}
 use Rattle.map_check.specs.Clash.{priorityOf}
+use Rattle.map_records.specs.Limits.{mostRegions}
 use Rattle.map_records.specs.declared.map.Region.{Region}
 use Rattle.map_records.specs.declared.map.RegionMap.{RegionMap}
 use Rattle.region_map.specs.declared.resolve.Resolved.{Resolved}
@@ -30,40 +31,44 @@ asked m under c a = cond (holds m c a) (under c (a - region m c .offset)) Nothin
 unfoldable pub own : RegionMap → ℕ → ℕ → Resolved
 own m n a = cond (eqb (region m n .kind) container) Nothing (At n (record { 0 = a }))
 
+-- more than every rank of a child: 256 priorities of 32 regions
+abbrev pub ranks : ℕ
+ranks = 8192
+
 -- by what a region's priority is, with 128 added
 module _ (priority : Region → ℕ) where
   -- The order of children: by priority, and among equal priorities by number. In an accepted map equal priorities never share an address that the parent has, and no other is searched, so there the numbers settle nothing.
   unfoldable pub rank : RegionMap → ℕ → ℕ
-  rank m c = priority (region m c) * 32 + c
+  rank m c = priority (region m c) * mostRegions + c
 
   -- r is the rank of a child of n, the region r % 32
   unfoldable pub ranked : RegionMap → ℕ → ℕ → Bool
-  ranked m n r = child m n (r % 32) && eqb (rank m (r % 32)) r
+  ranked m n r = child m n (r % mostRegions) && eqb (rank m (r % mostRegions)) r
 
   -- what the child of rank r answers, where there is one
-  unfoldable pub answer : RegionMap → (ℕ → ℕ → Resolved) → ℕ → ℕ → ℕ → Resolved
-  answer m under n r a = cond (ranked m n r) (asked m under (r % 32) a) Nothing
+  unfoldable pub rankAnswer : RegionMap → (ℕ → ℕ → Resolved) → ℕ → ℕ → ℕ → Resolved
+  rankAnswer m under n r a = cond (ranked m n r) (asked m under (r % mostRegions) a) Nothing
 
   -- 'highest priority first .. the first that answers wins': the children of n whose ranks are below r; if none answers, n itself
   unfoldable pub tried : RegionMap → (ℕ → ℕ → Resolved) → ℕ → ℕ → ℕ → Resolved
   tried m under n zero a = own m n a
-  tried m under n (suc r) a = orElse (answer m under n r a) (tried m under n r a)
+  tried m under n (suc r) a = orElse (rankAnswer m under n r a) (tried m under n r a)
 
-  -- region n at a, where `under` walks the regions below n: 'address not below the size: nothing; alias: walk at the target with address + alias offset; otherwise take the children'. With the priority fields that 6 lets pass every rank is below 256 * 32.
-  unfoldable pub visit : RegionMap → (ℕ → ℕ → Resolved) → ℕ → ℕ → Resolved
-  visit m under n a =
+  -- region n at a, where `under` walks the regions below n: 'address not below the size: nothing; alias: walk at the target with address + alias offset; otherwise take the children'. With the priority fields that 6 lets pass every rank is below `ranks`.
+  unfoldable pub walkAt : RegionMap → (ℕ → ℕ → Resolved) → ℕ → ℕ → Resolved
+  walkAt m under n a =
       cond (leb (region m n .size) a) Nothing
       (cond (eqb (region m n .kind) alias) (under (region m n .target) (a + region m n .«alias_offset»))
-      (tried m under n 8192 a))
+      (tried m under n ranks a))
 
   -- the walk at the regions below k; nothing at others
   unfoldable pub walkBelow : RegionMap → ℕ → ℕ → ℕ → Resolved
   walkBelow m zero n a = Nothing
-  walkBelow m (suc k) n a = cond (eqb n k) (visit m (walkBelow m k) n a) (walkBelow m k n a)
+  walkBelow m (suc k) n a = cond (eqb n k) (walkAt m (walkBelow m k) n a) (walkBelow m k n a)
 
   -- the walk at region n
   unfoldable pub walkBy : RegionMap → ℕ → ℕ → Resolved
-  walkBy m n a = visit m (walkBelow m n) n a
+  walkBy m n a = walkAt m (walkBelow m n) n a
 
   -- 'The root is the last. .. A guest address is walked from the root.'
   unfoldable pub walkRootBy : RegionMap → ℕ → Resolved

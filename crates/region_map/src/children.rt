@@ -3,9 +3,10 @@ ghost use mathlib.Core.Path.{_≡_};
 ghost use Prim.Native.Nat.{_≤_};
 ghost use Rattle.map_records.specs.Words.{mapOf};
 ghost use Rattle.map_check.specs.Clash.{priorityOf};
-ghost use Rattle.region_map.specs.Walk.{rank as rankOf};
+ghost use Rattle.region_map.specs.Walk.{rank as rankOf, ranks};
 ghost use Rattle.region_map.specs.Contracts.{InTree, NextChild};
 use map_check::priority::priority_of;
+use map_records::map::REGIONS;
 use map_records::words::region_at;
 
 // More than every rank of a child.
@@ -17,12 +18,12 @@ fn rank(map: &[u64], c: usize) -> usize
     ensures { λ r. ⌜ r ≡ rankOf priorityOf (mapOf (now (map .entry))) c ⌝ }
 {
     let region = region_at(map, c);
-    (priority_of(region) as usize) * 32 + c
+    (priority_of(region) as usize) * REGIONS + c
 }
 
 // One more than the highest rank below `below` of a child of n, or 0.
 pub fn next_child(map: &[u64], n: usize, below: usize) -> usize
-    requires { ⌜ InTree (now map) n × (below ≤ 8192) ⌝ }
+    requires { ⌜ InTree (now map) n × (below ≤ ranks) ⌝ }
     ensures { λ r. ⌜ NextChild (mapOf (now (map .entry))) n below r ⌝ }
 {
     let mut best: usize = 0;

@@ -7,22 +7,26 @@ ghost use lib.ListN.{length};
 ghost use Rattle.map_records.specs.View.{entries};
 ghost use Rattle.map_records.specs.Words.{mapOf, viewOf};
 ghost use Rattle.region_map.specs.FlatList.{joins, push};
-ghost use Rattle.region_map.specs.Flatten.{backingOf, flatBelow, flatList, viewHolding};
+ghost use Rattle.region_map.specs.Flatten.{baseOf, backingOf, flatBelow, flatList, viewHolding};
 ghost use Rattle.map_check.specs.Contracts.{Tree};
-ghost use Rattle.region_map.specs.Contracts.{Viewed, Filled, Grows, Emits};
+ghost use Rattle.region_map.specs.Contracts.{Viewed, NoEmptyRange, Grows, Emits};
 ghost use Rattle.region_map.specs.Pieces.{horizonOf};
+ghost use Rattle.map_records.specs.Limits.{mapLength, viewLength, mostRegions};
+use crate::pieces::AddressSpan;
 use crate::pieces::COUNT;
 use crate::pieces::HORIZON;
 use crate::pieces::WORDS;
-use crate::pieces::Window;
 use crate::pieces::begin;
 use crate::pieces::piece_at;
 use crate::render::render;
 use crate::resolve::root_offset;
 use map_records::map::GuestAddress;
 use map_records::map::MMIO;
+use map_records::map::Region;
+use map_records::map::has_memory;
 use map_records::numbers::least;
 use map_records::view::FlatRange;
+use map_records::view::RANGES;
 use map_records::words::count_of;
 use map_records::words::put_count;
 use map_records::words::put_range;
@@ -58,7 +62,7 @@ fn goes_on(x: FlatRange, r: FlatRange) -> bool
 
 // One range more in the view, or the last one grown. Is it full, so that there was no room?
 fn push_range(view: &mut [u64], r: FlatRange) -> bool
-    requires { ⌜ Viewed (now view) × Filled (viewOf (now view)) ⌝ }
+    requires { ⌜ Viewed (now view) × NoEmptyRange (viewOf (now view)) ⌝ }
     ensures { λ full. ⌜ Grows (push (entries (viewOf (now (view .entry)))) r) (now (view .entry)) full (now (view .exit)) ⌝ }
 {
     let n = count_of(view);
@@ -81,7 +85,7 @@ fn push_range(view: &mut [u64], r: FlatRange) -> bool
             return false;
         }
     }
-    if n == 256 {
+    if n == RANGES {
         return true;
     }
     put_range(view, n, r);
@@ -89,21 +93,24 @@ fn push_range(view: &mut [u64], r: FlatRange) -> bool
     false
 }
 
+// A region's memory start or port; 0 where its kind has neither.
+fn base_of(r: Region) -> u64
+    ensures { λ b. ⌜ b ≡ baseOf r ⌝ }
+{
+    if has_memory(r.kind) {
+        return r.memory_start;
+    }
+    if r.kind == MMIO { r.port } else { 0 }
+}
+
 fn backing_of(map: &[u64], n: usize) -> Backing
-    requires { ⌜ (length (now map) ≡ 289) × (n < 32) ⌝ }
+    requires { ⌜ (length (now map) ≡ mapLength) × (n < mostRegions) ⌝ }
     ensures { λ r. ⌜ r ≡ backingOf (mapOf (now (map .entry))) n ⌝ }
 {
     let region = region_at(map, n);
-    let kind = region.kind;
-    if kind == MMIO {
-        return Backing {
-            kind,
-            base: region.port,
-        };
-    }
     Backing {
-        kind,
-        base: region.memory_start,
+        kind: region.kind,
+        base: base_of(region),
     }
 }
 
@@ -140,7 +147,7 @@ fn emit(map: &[u64], view: &mut [u64], table: &[u64]) -> bool
 // The ranges of all addresses of the root, laid into an empty view. Is it full, since there are more than 256?
 pub fn sweep(map: &[u64], view: &mut [u64]) -> bool
     requires { ⌜ Tree (now map) × (0 < mapOf (now map) .count) ⌝ }
-    requires { ⌜ (length (now view) ≡ 1537) × (viewOf (now view) ≡ viewHolding []) ⌝ }
+    requires { ⌜ (length (now view) ≡ viewLength) × (viewOf (now view) ≡ viewHolding []) ⌝ }
     ensures { λ full. ⌜ Grows (flatList (mapOf (now (map .entry)))) (now (view .entry)) full (now (view .exit)) ⌝ }
 {
     let root = region_count(map) - 1;
@@ -157,7 +164,7 @@ pub fn sweep(map: &[u64], view: &mut [u64]) -> bool
             map,
             &mut table,
             root,
-            Window {
+            AddressSpan {
                 first: here,
                 end,
                 offset,

@@ -2,11 +2,12 @@
 // region. The table is filled from the highest priority down, so that a piece takes only what is free.
 // Where it is full, what lies furthest gives way and the horizon comes nearer: below it the table is whole.
 ghost use mathlib.Core.Path.{_≡_};
-ghost use Prim.Native.Nat.{_+_, _*_, _^_, _≤_, _<_};
+ghost use Prim.Native.Nat.{_+_, _*_, _≤_, _<_};
 ghost use lib.ListN.{length};
 ghost use lib.Seq.{sets};
 ghost use Rattle.region_map.specs.Pieces.{pieceWords, pieceShows, countOf, seen, itself, isTaken};
-ghost use Rattle.region_map.specs.Pieces.{Begun, PieceIs, Pieces, Windowed, Behind, Spot, Moved, Fits, Free, Run};
+ghost use Rattle.region_map.specs.Pieces.{BegunTable, PieceIs, Pieces, SpanFits, Behind, PieceSpot, Moved, Fits, Free, TakenUpTo, pieceTableLength, mostPieces};
+ghost use Rattle.map_records.specs.Limits.{limit, mostRegions};
 use map_records::map::GuestAddress;
 use map_records::map::RegionOffset;
 use map_records::numbers::least;
@@ -34,7 +35,7 @@ pub struct Piece {
 }
 
 // The addresses from first up to end, at which a region is seen from an offset on.
-pub struct Window {
+pub struct AddressSpan {
     pub first: GuestAddress,
     pub end: GuestAddress,
     pub offset: RegionOffset,
@@ -42,8 +43,8 @@ pub struct Window {
 
 // An empty table for the addresses from `start` up to `end`.
 pub fn begin(table: &mut [u64], start: GuestAddress, end: GuestAddress)
-    requires { ⌜ (length (now table) ≡ 1027) × (start .0 < end .0) × (end .0 ≤ 2 ^ 48) ⌝ }
-    ensures { λ _. ⌜ Begun (start .0) (end .0) (now (table .exit)) ⌝ }
+    requires { ⌜ (length (now table) ≡ pieceTableLength) × (start .0 < end .0) × (end .0 ≤ limit) ⌝ }
+    ensures { λ _. ⌜ BegunTable (start .0) (end .0) (now (table .exit)) ⌝ }
 {
     table[COUNT] = 0;
     table[HORIZON] = end.0;
@@ -51,7 +52,7 @@ pub fn begin(table: &mut [u64], start: GuestAddress, end: GuestAddress)
 }
 
 pub fn piece_at(table: &[u64], i: usize) -> Piece
-    requires { ⌜ (length (now table) ≡ 1027) × (i < 256) ⌝ }
+    requires { ⌜ (length (now table) ≡ pieceTableLength) × (i < mostPieces) ⌝ }
     ensures { λ r. ⌜ PieceIs (now (table .entry)) i r ⌝ }
 {
     let at = 3 + 4 * i;
@@ -64,7 +65,7 @@ pub fn piece_at(table: &[u64], i: usize) -> Piece
 }
 
 fn put_piece(table: &mut [u64], i: usize, piece: Piece)
-    requires { ⌜ (length (now table) ≡ 1027) × (i < 256) ⌝ }
+    requires { ⌜ (length (now table) ≡ pieceTableLength) × (i < mostPieces) ⌝ }
     ensures { λ _. ⌜ now (table .exit) ≡ sets (now (table .entry)) (3 + 4 * i) (pieceWords piece) ⌝ }
 {
     let at = 3 + 4 * i;
@@ -76,7 +77,7 @@ fn put_piece(table: &mut [u64], i: usize, piece: Piece)
 
 // Pieces i up to n move up by one, the last first.
 fn shift(table: &mut [u64], i: usize, n: usize)
-    requires { ⌜ (length (now table) ≡ 1027) × (i ≤ n) × (n ≤ 255) ⌝ }
+    requires { ⌜ (length (now table) ≡ pieceTableLength) × (i ≤ n) × (n < mostPieces) ⌝ }
     ensures { λ _. ⌜ Moved (now (table .entry)) i n (now (table .exit)) ⌝ }
 {
     let mut k = n;
@@ -92,7 +93,7 @@ fn insert(table: &mut [u64], i: usize, piece: Piece)
     requires { ⌜ Pieces (now table) ⌝ }
     requires { ⌜ Fits (now table) i piece ⌝ }
     ensures { λ _. ⌜ Behind (now (table .entry)) (pieceShows piece) (now (table .exit))
-        × Spot (now (table .exit)) (piece .end .0) (i + 1) ⌝ }
+        × PieceSpot (now (table .exit)) (piece .end .0) (i + 1) ⌝ }
 {
     let count = table[COUNT];
     if count == PIECES {
@@ -108,7 +109,7 @@ fn insert(table: &mut [u64], i: usize, piece: Piece)
 // The place of an address among the pieces, by halving.
 fn spot(table: &[u64], a: u64) -> usize
     requires { ⌜ Pieces (now table) ⌝ }
-    ensures { λ r. ⌜ Spot (now (table .entry)) a r ⌝ }
+    ensures { λ r. ⌜ PieceSpot (now (table .entry)) a r ⌝ }
 {
     let mut low: usize = 0;
     let mut high = table[COUNT] as usize;
@@ -127,7 +128,7 @@ fn spot(table: &[u64], a: u64) -> usize
 // How far from an address on nothing is taken, where i is the address's place.
 fn free_until(table: &[u64], i: usize, a: u64, end: u64) -> u64
     requires { ⌜ Pieces (now table) ⌝ }
-    requires { ⌜ Spot (now table) a i × (a ≤ end) ⌝ }
+    requires { ⌜ PieceSpot (now table) a i × (a ≤ end) ⌝ }
     ensures { λ r. ⌜ Free (now (table .entry)) i a end r ⌝ }
 {
     if (i as u64) < table[COUNT] {
@@ -162,7 +163,7 @@ struct Skipped {
 // known is done here, so the loop stands by itself and does nothing else.
 fn skip(table: &[u64], i: usize, end: u64) -> Skipped
     requires { ⌜ Pieces (now table) × (i < countOf (now table)) ⌝ }
-    ensures { λ r. ⌜ Run (now (table .entry)) i (r .address) (r .at) ⌝ }
+    ensures { λ r. ⌜ TakenUpTo (now (table .entry)) i (r .address) (r .at) ⌝ }
 {
     let here = piece_at(table, i);
     let mut at = i + 1;
@@ -178,9 +179,9 @@ fn skip(table: &[u64], i: usize, end: u64) -> Skipped
     }
 }
 
-// A region at the addresses of a window that are free.
-pub fn fill(table: &mut [u64], region: usize, at: Window)
-    requires { ⌜ Windowed (now table) at × (region < 32) ⌝ }
+// A region at the addresses of a span that are free.
+pub fn fill(table: &mut [u64], region: usize, at: AddressSpan)
+    requires { ⌜ SpanFits (now table) at × (region < mostRegions) ⌝ }
     ensures { λ _. ⌜ Behind (now (table .entry)) (seen (itself region) at) (now (table .exit)) ⌝ }
 {
     let mut a = at.first.0;
@@ -195,7 +196,7 @@ pub fn fill(table: &mut [u64], region: usize, at: Window)
             a = past.address;
             i = past.at;
         } else {
-            if i == 256 {
+            if i == PIECES as usize {
                 table[HORIZON] = a;
                 return;
             }

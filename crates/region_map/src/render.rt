@@ -1,26 +1,28 @@
 // Filling the table of pieces from the tree: a region and its remaining children are two functions that
-// call each other, as in the walk, over a window of addresses and not one address.
-ghost use Prim.Native.Nat.{_^_, _≤_};
-ghost use Rattle.region_map.specs.Walk.{walk as walkOf};
+// call each other, as in the walk, over a span of addresses and not one address.
+ghost use Prim.Native.Nat.{_≤_};
+ghost use Rattle.region_map.specs.Walk.{walk as walkOf, ranks};
 ghost use Rattle.map_records.specs.Words.{mapOf};
 ghost use Rattle.region_map.specs.Contracts.{InTree, triedIn};
-ghost use Rattle.region_map.specs.Pieces.{seen, Windowed, Behind};
+ghost use Rattle.region_map.specs.Pieces.{seen, SpanFits, Behind};
+ghost use Rattle.map_records.specs.Limits.{limit};
 use crate::children::RANKS;
 use crate::children::next_child;
+use crate::pieces::AddressSpan;
 use crate::pieces::HORIZON;
-use crate::pieces::Window;
 use crate::pieces::fill;
 use map_records::map::ALIAS;
 use map_records::map::CONTAINER;
 use map_records::map::GuestAddress;
+use map_records::map::REGIONS;
 use map_records::map::RegionOffset;
 use map_records::numbers::least;
 use map_records::words::region_at;
 
-// Region n in a window.
-pub fn render(map: &[u64], table: &mut [u64], n: usize, at: Window)
+// Region n in a span.
+pub fn render(map: &[u64], table: &mut [u64], n: usize, at: AddressSpan)
     requires { ⌜ InTree (now map) n ⌝ }
-    requires { ⌜ Windowed (now table) at ⌝ }
+    requires { ⌜ SpanFits (now table) at ⌝ }
     ensures { λ _. ⌜ Behind (now (table .entry)) (seen (walkOf (mapOf (now (map .entry))) n) at) (now (table .exit)) ⌝ }
 {
     let region = region_at(map, n);
@@ -36,16 +38,21 @@ pub fn render(map: &[u64], table: &mut [u64], n: usize, at: Window)
     let end = GuestAddress(first.0 + least(at.end.0 - first.0, size - offset.0));
     if region.kind == ALIAS {
         let offset = RegionOffset(offset.0 + region.alias_offset);
-        render(map, table, region.target, Window { first, end, offset });
+        render(
+            map,
+            table,
+            region.target,
+            AddressSpan { first, end, offset },
+        );
     } else {
-        render_children(map, table, n, Window { first, end, offset }, RANKS);
+        render_children(map, table, n, AddressSpan { first, end, offset }, RANKS);
     }
 }
 
 // The children of n whose ranks are below `below`, highest first, and then n itself.
-fn render_children(map: &[u64], table: &mut [u64], n: usize, at: Window, below: usize)
-    requires { ⌜ InTree (now map) n × (below ≤ 8192) ⌝ }
-    requires { ⌜ Windowed (now table) at × (at .first .0 ≤ at .end .0) × (at .offset .0 ≤ 2 ^ 48) ⌝ }
+fn render_children(map: &[u64], table: &mut [u64], n: usize, at: AddressSpan, below: usize)
+    requires { ⌜ InTree (now map) n × (below ≤ ranks) ⌝ }
+    requires { ⌜ SpanFits (now table) at × (at .first .0 ≤ at .end .0) × (at .offset .0 ≤ limit) ⌝ }
     ensures { λ _. ⌜ Behind (now (table .entry))
         (seen (triedIn (mapOf (now (map .entry))) n below) at) (now (table .exit)) ⌝ }
 {
@@ -58,20 +65,20 @@ fn render_children(map: &[u64], table: &mut [u64], n: usize, at: Window, below: 
         return;
     }
     let left = next - 1;
-    let c = left % 32;
+    let c = left % REGIONS;
     let child = region_at(map, c);
     let begins = child.offset;
     let end = at.end;
     if begins <= at.offset.0 {
         let first = at.first;
         let offset = RegionOffset(at.offset.0 - begins);
-        render(map, table, c, Window { first, end, offset });
+        render(map, table, c, AddressSpan { first, end, offset });
     } else {
         let ahead = begins - at.offset.0;
         if ahead < end.0 - at.first.0 {
             let first = GuestAddress(at.first.0 + ahead);
             let offset = RegionOffset(0);
-            render(map, table, c, Window { first, end, offset });
+            render(map, table, c, AddressSpan { first, end, offset });
         }
     }
     render_children(map, table, n, at, left);

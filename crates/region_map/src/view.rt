@@ -8,6 +8,8 @@ use map_check::check;
 use map_check::check::MapAnswer;
 use map_check::check::accepts;
 use map_check::check::check_map;
+use map_records::refusal;
+use map_records::words::VIEW_WORDS;
 use map_records::words::copy_words;
 
 // What the map's check says, or that an accepted map has more than 256 ranges, or that the lent words are not
@@ -23,12 +25,12 @@ pub fn flatten(map: &[u64], memory_length: u64, view: &mut [u64]) -> FlatAnswer
     ensures { λ r. ⌜ (flatReply r ≡ flattenedInto (mapOf (now (map .entry))) «memory_length» (now (view .entry)) .reply)
         × (now (view .exit) ≡ flattenedInto (mapOf (now (map .entry))) «memory_length» (now (view .entry)) .words) ⌝ }
 {
-    if view.len() != 1537 {
+    if view.len() != VIEW_WORDS {
         return FlatAnswer::Record;
     }
     let answer = check_map(map, memory_length);
     if accepts(answer) {
-        let mut made = [0u64; 1537];
+        let mut made = [0u64; VIEW_WORDS];
         if sweep(map, &mut made) {
             return FlatAnswer::TooMany;
         }
@@ -42,8 +44,8 @@ pub fn number_of(answer: FlatAnswer) -> u64
     ensures { λ r. ⌜ r ≡ numberOf (flatReply answer) ⌝ }
 {
     match answer {
-        FlatAnswer::TooMany => 12,
-        FlatAnswer::Record => 27,
+        FlatAnswer::TooMany => refusal::RUNS,
+        FlatAnswer::Record => refusal::RECORD,
         FlatAnswer::Checked(map) => check::number_of(map),
     }
 }

@@ -2,7 +2,7 @@
 // that call each other: the pair of region number and children left falls.
 ghost use mathlib.Core.Path.{_≡_};
 ghost use Prim.Native.Nat.{_≤_};
-ghost use Rattle.region_map.specs.Walk.{walk as walkOf};
+ghost use Rattle.region_map.specs.Walk.{walk as walkOf, ranks};
 ghost use Rattle.map_records.specs.Words.{mapOf};
 ghost use Rattle.region_map.specs.Contracts.{InTree, triedIn};
 use crate::children::RANKS;
@@ -10,6 +10,7 @@ use crate::children::next_child;
 use crate::resolve::Resolved;
 use map_records::map::ALIAS;
 use map_records::map::CONTAINER;
+use map_records::map::REGIONS;
 use map_records::map::RegionOffset;
 use map_records::words::region_at;
 
@@ -31,7 +32,7 @@ pub fn walk(map: &[u64], n: usize, at: RegionOffset) -> Resolved
 
 // The children of n whose ranks are below `below`, highest first, and then n itself.
 fn walk_children(map: &[u64], n: usize, at: RegionOffset, below: usize) -> Resolved
-    requires { ⌜ InTree (now map) n × (below ≤ 8192) ⌝ }
+    requires { ⌜ InTree (now map) n × (below ≤ ranks) ⌝ }
     ensures { λ r. ⌜ r ≡ triedIn (mapOf (now (map .entry))) n below (at .0) ⌝ }
 {
     let next = next_child(map, n, below);
@@ -43,7 +44,7 @@ fn walk_children(map: &[u64], n: usize, at: RegionOffset, below: usize) -> Resol
         return Resolved::At(n, at);
     }
     let left = next - 1;
-    let c = left % 32;
+    let c = left % REGIONS;
     let a = at.0;
     let child = region_at(map, c);
     if a < child.offset {

@@ -24,7 +24,7 @@ route-back (route.Port p o) = refl
 pub route-answer-injective : (a b : RouteAnswer) → routedBy a ≡ routedBy b → a ≡ b
 route-answer-injective = injective routedBy routeOf route-back
 
-lookUpOf : look.Led → LookUp
+lookUpOf : look.WalkAnswer → LookUp
 lookUpOf (look.refused r) = answer.Record
 lookUpOf (look.leads resolved.Nothing) = answer.Nothing
 lookUpOf (look.leads (resolved.At n o)) = answer.At n o

@@ -13,7 +13,7 @@ use Rattle.map_check.proofs.Bools.{and-fst, and-snd, and-true, and-off}
 use Rattle.map_records.specs.View.{entries}
 use Rattle.map_records.specs.declared.view.FlatView.{FlatView}
 use Rattle.device_words.specs.Device.{MemoryDevice, deviceOk, pluggedIn}
-use Rattle.device_words.specs.Words.{deviceOf}
+use Rattle.device_words.specs.Words.{deviceOf, deviceLength}
 use Rattle.device_words.proofs.DeviceWords.{device-at, plugged-length}
 use Rattle.device_words.proofs.RuleLaws.{device-valid}
 use Rattle.guest_view.specs.Guest.{leafAt}
@@ -99,7 +99,7 @@ module _ (ok : Bool) (f : ℕ → ℕ → Routed) (accesses answers : List ℕ) 
   all-answered e g s = rw (e, s)
 
 -- ---- a device whose words 27 accepts
-module _ (words : List ℕ) (size : length words ≡ 37) (ok : deviceOk (deviceOf words) ≡ true) where
+module _ (words : List ℕ) (size : length words ≡ deviceLength) (ok : deviceOk (deviceOf words) ≡ true) where
   pub block-big : (block : ℕ) → block ≡ deviceOf words .«block_size» → 8 ≤ block
   block-big block e = omega (arith, device-valid (deviceOf words) ok .least)
 

@@ -11,7 +11,7 @@ use lib.ListN.{length, getD, replicate}
 use lib.Seq.{getD-take, length-take-le}
 use borrow.Author.Tests.{eq-eqb, ne-eqb, eqb-true, not-true, not-false}
 use Rattle.map_records.specs.Map.{mmio, managed}
-use Rattle.region_map.specs.FlatList.{inside, lookup, answerOf}
+use Rattle.region_map.specs.FlatList.{inside, lookup, rangeAnswer}
 use Rattle.map_records.specs.View.{entries, noRange}
 use Rattle.map_records.specs.View.{rangeOf}
 use Rattle.map_check.specs.Reply.{plain}
@@ -44,7 +44,7 @@ unfolding lookup leafAt
 lookup-leaf [] a = refl
 lookup-leaf (x ∷ xs) a = go (inside x a) (lookup-leaf xs a)
   where
-    go : (b : Bool) → lookup xs a ≡ forget (leafAt xs a) → cond b (answerOf x a) (lookup xs a) ≡ forget (cond b (leafIn x a) (leafAt xs a))
+    go : (b : Bool) → lookup xs a ≡ forget (leafAt xs a) → cond b (rangeAnswer x a) (lookup xs a) ≡ forget (cond b (leafIn x a) (leafAt xs a))
     go true e = refl
     go false e = e
 

@@ -8,6 +8,7 @@ use lib.ListN.{length, getD}
 use Rattle.map_records.specs.Map.{mmio, managed}
 use Rattle.map_records.specs.View.{entries}
 use Rattle.map_check.specs.Reply.{Reply, accepted, plain}
+use Rattle.map_records.specs.Refusal as refusal
 use Rattle.map_records.specs.declared.view.FlatView.{FlatView}
 use Rattle.device_words.specs.Table.{allBelow}
 use Rattle.device_words.specs.Device.{MemoryDevice, deviceOk, pluggedAt}
@@ -56,27 +57,27 @@ isOpen plugged (leaf n kind base o) = not (eqb kind managed) || plugged o
 
 -- 'An access is routed whole, to memory place or port and offset'
 abbrev pub target : Leaf → Routed
-target nowhere = refused 24
+target nowhere = refused refusal.HOLE
 target (leaf n kind base o) = cond (eqb kind mmio) (toPort base o) (toMemory (base + o))
 
 -- 'or refused by the first of 23 to 26 that holds'
 unfoldable pub routed : (ℕ → Leaf) → (ℕ → Bool) → ℕ → ℕ → Routed
 routed answers plugged a w =
     cond (widthOk w)
-    (cond (isNowhere (answers a)) (refused 24)
+    (cond (isNowhere (answers a)) (refused refusal.HOLE)
     (cond (allBelow (λ i. follows (answers a) i (answers (a + i))) w)
-    (cond (allBelow (λ i. isOpen plugged (answers (a + i))) w) (target (answers a)) (refused 26))
-    (refused 25)))
-    (refused 23)
+    (cond (allBelow (λ i. isOpen plugged (answers (a + i))) w) (target (answers a)) (refused refusal.UNPLUGGED))
+    (refused refusal.SPLIT)))
+    (refused refusal.WIDTH)
 
 -- '27 comes first', with a device
 unfoldable pub routedWith : FlatView → ℕ → MemoryDevice → ℕ → ℕ → Routed
 routedWith v memory d a w =
-    cond (viewOk v memory (d .«region_size») && deviceOk d) (routed (leafAt (entries v)) (pluggedAt d) a w) (refused 27)
+    cond (viewOk v memory (d .«region_size») && deviceOk d) (routed (leafAt (entries v)) (pluggedAt d) a w) (refused refusal.RECORD)
 
 -- 'Given no device, every block counts as unplugged and 27 judges no region'
 unfoldable pub routedWithout : FlatView → ℕ → ℕ → ℕ → Routed
-routedWithout v memory a w = cond (viewOk v memory noRegionBound) (routed (leafAt (entries v)) (λ o. false) a w) (refused 27)
+routedWithout v memory a w = cond (viewOk v memory noRegionBound) (routed (leafAt (entries v)) (λ o. false) a w) (refused refusal.RECORD)
 
 -- Many accesses at once, each of two words: its address and its width. An answer is four words: document 01's number, or 0 and then 1 and the memory place, or 2, the port and the offset.
 abbrev pub answerWords : Routed → List ℕ
@@ -107,7 +108,7 @@ unfoldable pub allRouted : Bool → (ℕ → ℕ → Routed) → List ℕ → Li
 allRouted ok f accesses answers =
     cond (ok && answersFit accesses answers)
     (record { number = 0; answers = answersOf f accesses })
-    (record { number = 27; answers = answers })
+    (record { number = refusal.RECORD; answers = answers })
 
 abbrev pub allWith : FlatView → ℕ → MemoryDevice → List ℕ → List ℕ → RoutedAll
 allWith v memory d = allRouted (viewOk v memory (d .«region_size») && deviceOk d) (routedWith v memory d)

@@ -6,7 +6,7 @@ ghost use Prim.Native.Nat.{_+_, _*_, _≤_, _<_};
 ghost use lib.ListN.{length};
 ghost use lib.Seq.{sets};
 ghost use Rattle.map_check.specs.Reply.{numberOf};
-ghost use Rattle.device_words.specs.Table.{allBelow};
+ghost use Rattle.device_words.specs.Table.{allBelow, tableLength};
 ghost use Rattle.device_words.specs.Device.{pluggedIn};
 ghost use Rattle.device_words.specs.Words.{deviceOf};
 ghost use Rattle.map_records.specs.Words.{viewOf};
@@ -14,8 +14,10 @@ ghost use Rattle.guest_view.specs.Contracts.{Judged, Spot};
 ghost use Rattle.routing.specs.Route.{widthOk, routedBy, routedWith, routedWithout, routeReply};
 ghost use Rattle.routing.specs.Route.{answerWords, answersOf, answersFit, allWith, allWithout, RoutesAll};
 ghost use Rattle.routing.specs.Contracts.{isWhole, routedIn};
+ghost use Rattle.map_records.specs.Limits.{limit};
 use crate::view::NO_REGION;
 use device_words::rules::device_ok;
+use device_words::table::TABLE_WORDS;
 use device_words::words::block_size;
 use device_words::words::plugged;
 use device_words::words::region_size;
@@ -28,6 +30,7 @@ use map_records::map::GuestAddress;
 use map_records::map::MANAGED;
 use map_records::map::MMIO;
 use map_records::map::RegionOffset;
+use map_records::refusal;
 use map_records::words::count_of;
 use map_records::words::range_at;
 
@@ -36,7 +39,7 @@ const ANY_BLOCK_SIZE: u64 = 4096;
 
 // A refusal's number, a memory place, or a port and the offset in its region.
 pub enum RouteAnswer {
-    Refused(u8),
+    Refused(u64),
     Memory(u64),
     Port(u64, RegionOffset),
 }
@@ -89,8 +92,8 @@ fn is_whole(view: &[u64], at: usize, a: GuestAddress, w: u64) -> bool
 
 // Are the blocks of an access plugged? They are at most two, since no block is shorter than it.
 fn blocks_plugged(block: u64, plugged: &[u64], offset: RegionOffset, w: u64) -> bool
-    requires { ⌜ (8 ≤ block) × (length (now plugged) ≡ 16) ⌝ }
-    requires { ⌜ (0 < w) × (w ≤ 8) × (offset .0 < 281474976710656) ⌝ }
+    requires { ⌜ (8 ≤ block) × (length (now plugged) ≡ tableLength) ⌝ }
+    requires { ⌜ (0 < w) × (w ≤ 8) × (offset .0 < limit) ⌝ }
     ensures { λ r. ⌜ r ≡ allBelow (λ i. pluggedIn block (now (plugged .entry)) (offset .0 + i)) w ⌝ }
 {
     if !is_plugged(block, plugged, offset) {
@@ -113,18 +116,18 @@ fn route_at(
     w: u64,
 ) -> RouteAnswer
     requires { ⌜ Judged (now view) ⌝ }
-    requires { ⌜ (8 ≤ block) × (length (now plugged) ≡ 16) ⌝ }
+    requires { ⌜ (8 ≤ block) × (length (now plugged) ≡ tableLength) ⌝ }
     requires { ⌜ Spot (viewOf (now view)) (a .0) at ⌝ }
     ensures { λ r. ⌜ routedBy r ≡ routedIn (now (view .entry)) block (now (plugged .entry)) (a .0) w ⌝ }
 {
     if !width_ok(w) {
-        return RouteAnswer::Refused(23);
+        return RouteAnswer::Refused(refusal::WIDTH);
     }
     if count_of(view) <= at {
-        return RouteAnswer::Refused(24);
+        return RouteAnswer::Refused(refusal::HOLE);
     }
     if !is_whole(view, at, a, w) {
-        return RouteAnswer::Refused(25);
+        return RouteAnswer::Refused(refusal::SPLIT);
     }
     let range = range_at(view, at);
     let offset = offset_in(range, a);
@@ -133,7 +136,7 @@ fn route_at(
     }
     if range.kind == MANAGED {
         if !blocks_plugged(block, plugged, offset, w) {
-            return RouteAnswer::Refused(26);
+            return RouteAnswer::Refused(refusal::UNPLUGGED);
         }
     }
     let place = place_of(range.base, offset);
@@ -143,7 +146,7 @@ fn route_at(
 // One access over a view that was judged.
 fn route_judged(view: &[u64], block: u64, plugged: &[u64], a: GuestAddress, w: u64) -> RouteAnswer
     requires { ⌜ Judged (now view) ⌝ }
-    requires { ⌜ (8 ≤ block) × (length (now plugged) ≡ 16) ⌝ }
+    requires { ⌜ (8 ≤ block) × (length (now plugged) ≡ tableLength) ⌝ }
     ensures { λ r. ⌜ routedBy r ≡ routedIn (now (view .entry)) block (now (plugged .entry)) (a .0) w ⌝ }
 {
     let at = near(view, 0, a);
@@ -166,7 +169,7 @@ pub fn route(
             return route_judged(view, block_size(device), plugged(device), address, width);
         }
     }
-    RouteAnswer::Refused(27)
+    RouteAnswer::Refused(refusal::RECORD)
 }
 
 // An access without one: every block counts as unplugged, and 27 judges no region.
@@ -179,10 +182,10 @@ pub fn route_without_device(
     ensures { λ r. ⌜ routedBy r ≡ routedWithout (viewOf (now (view .entry))) «memory_length» (address .0) width ⌝ }
 {
     if view_ok(view, memory_length, NO_REGION) {
-        let table = [0u64; 16];
+        let table = [0u64; TABLE_WORDS];
         return route_judged(view, ANY_BLOCK_SIZE, &table, address, width);
     }
-    RouteAnswer::Refused(27)
+    RouteAnswer::Refused(refusal::RECORD)
 }
 
 // Document 01's number of the refusal, and 0 where the access is routed.
@@ -190,7 +193,7 @@ pub fn number_of(answer: RouteAnswer) -> u64
     ensures { λ r. ⌜ r ≡ numberOf (routeReply (routedBy answer)) ⌝ }
 {
     match answer {
-        RouteAnswer::Refused(n) => n as u64,
+        RouteAnswer::Refused(n) => n,
         RouteAnswer::Memory(_) => 0,
         RouteAnswer::Port(_, _) => 0,
     }
@@ -213,7 +216,7 @@ fn put_answer(answers: &mut [u64], i: usize, answer: RouteAnswer)
 {
     let at = 4 * i;
     match answer {
-        RouteAnswer::Refused(n) => put_four(answers, at, n as u64, 0, 0, 0),
+        RouteAnswer::Refused(n) => put_four(answers, at, n, 0, 0, 0),
         RouteAnswer::Memory(place) => put_four(answers, at, 0, 1, place, 0),
         RouteAnswer::Port(port, offset) => put_four(answers, at, 0, 2, port, offset.0),
     }
@@ -222,7 +225,7 @@ fn put_answer(answers: &mut [u64], i: usize, answer: RouteAnswer)
 // Each access in turn, over a view that was judged. The range of the one before is tried first.
 fn routes_judged(view: &[u64], block: u64, plugged: &[u64], accesses: &[u64], answers: &mut [u64])
     requires { ⌜ Judged (now view) ⌝ }
-    requires { ⌜ (8 ≤ block) × (length (now plugged) ≡ 16) ⌝ }
+    requires { ⌜ (8 ≤ block) × (length (now plugged) ≡ tableLength) ⌝ }
     requires { ⌜ answersFit (now accesses) (now answers) ≡ true ⌝ }
     ensures { λ _. ⌜ now (answers .exit)
         ≡ answersOf (routedIn (now (view .entry)) block (now (plugged .entry))) (now (accesses .entry)) ⌝ }
@@ -267,7 +270,7 @@ pub fn route_all(
             return 0;
         }
     }
-    27
+    refusal::RECORD
 }
 
 // Many accesses without one.
@@ -283,9 +286,9 @@ pub fn route_all_without_device(
 {
     let ok = view_ok(view, memory_length, NO_REGION);
     if ok & answers_fit(accesses, answers) {
-        let table = [0u64; 16];
+        let table = [0u64; TABLE_WORDS];
         routes_judged(view, ANY_BLOCK_SIZE, &table, accesses, answers);
         return 0;
     }
-    27
+    refusal::RECORD
 }

@@ -7,6 +7,8 @@ use guest_view::place::offset_in;
 use guest_view::rules::view_ok;
 use map_records::map::GuestAddress;
 use map_records::map::RegionOffset;
+use map_records::numbers::LIMIT;
+use map_records::view::RANGES;
 use map_records::words::count_of;
 use map_records::words::range_at;
 
@@ -17,15 +19,15 @@ pub enum LookUp {
     Record,
 }
 
-// Given no device, 27 judges no region: no offset reaches 2^48.
-pub const NO_REGION: u64 = 281474976710656;
+// Given no device, 27 judges no region: no offset reaches the limit.
+pub const NO_REGION: u64 = LIMIT;
 
 // What the view gives an address, by halving.
 pub fn look_up(view: &[u64], memory_length: u64, address: GuestAddress) -> LookUp
     ensures { λ r. ⌜ lookedBy r ≡ lookedUp (viewOf (now (view .entry))) «memory_length» (address .0) ⌝ }
 {
     if view_ok(view, memory_length, NO_REGION) {
-        let at = near(view, 256, address);
+        let at = near(view, RANGES, address);
         if at < count_of(view) {
             let range = range_at(view, at);
             let offset = offset_in(range, address);

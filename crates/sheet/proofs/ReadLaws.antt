@@ -6,18 +6,19 @@ use Prim.Native.Nat.{ℕ, zero, suc}
 use lib.Dec.{eqb, ltb}
 use lib.ListN.{length, length-replicate, length-set}
 use borrow.Author.Tests.{eq-eqb, ne-eqb}
-use Rattle.map_records.specs.Map.{noRegion}
+use Rattle.map_records.specs.Map.{noRegion, blankMap}
 use Rattle.map_records.specs.Words.{mapOf, mapWords}
 use Rattle.map_records.specs.declared.map.RegionMap.{RegionMap}
 use Rattle.map_records.proofs.WordLaws.{words-map}
-use Rattle.map_check.specs.Reply.{Reply, accepted, nodes, place, plain, passes, numberOf}
+use Rattle.map_check.specs.Reply.{Reply, accepted, nodes, place, plain, passes, numberOf, Laid}
 use Rattle.map_check.specs.Check.{countFault, judged, Accepted}
 use Rattle.map_check.proofs.Answers.{map-zero}
 use Rattle.map_check.proofs.Bools.{never}
 use Rattle.sheet.specs.Answer.{Read, got, refused, next, sheetReply}
-use Rattle.sheet.specs.Number.{number}
-use Rattle.sheet.specs.Region.{regionAt}
-use Rattle.sheet.specs.Sheet.{blankMap, withRegion, regionsFrom, mapAt, Outcome, refusal, checked, finished, readSheet, Made, laidInto, isMap, readInto}
+use Rattle.sheet.specs.Number.{sheetNumber}
+use Rattle.sheet.specs.Region.{sheetRegion}
+use Rattle.sheet.specs.Sheet.{withRegion, regionsFrom, mapAt, SheetOutcome, sheetRefusal, checked, readToEnd, readSheet, mapLaid, readInto}
+use Rattle.map_records.specs.Limits.{isMap, mapLength}
 use Rattle.sheet.specs.declared.answer.SheetAnswer.{SheetAnswer}
 use Rattle.sheet.specs.declared.answer.SheetAnswer.the-variants.{Short, Number, Count, Kind, Tail, Record, Checked}
 use Rattle.sheet.proofs.RefusalLaws.{number-not, regions-not}
@@ -48,10 +49,10 @@ said same e k =
 
 -- ---- the map of an accepted sheet is accepted
 module _ (s : List ℕ) (memory : ℕ) where
-  abbrev Good : Outcome → Type 0
+  abbrev Good : SheetOutcome → Type 0
   Good o = passes (o .reply) ≡ true → judged (o .map) memory ≡ accepted
 
-  good-either : (t : Bool) (x y : Outcome) → Good x → Good y → Good (cond t x y)
+  good-either : (t : Bool) (x y : SheetOutcome) → Good x → Good y → Good (cond t x y)
   good-either true x y p q = p
   good-either false x y p q = q
 
@@ -61,13 +62,13 @@ module _ (s : List ℕ) (memory : ℕ) where
   good-checked m (place k q) e p = absurd (never (sym p))
   good-checked m (plain k) e p = absurd (never (sym p))
 
-  good-finished : (x : Read RegionMap) → ((r : Reply) → x ≡ refused r → passes r ≡ false) → Good (finished s memory x)
-  good-finished (got m at) h = good-either (ltb at (length s)) (refusal (place 5 at)) (checked m (judged m memory)) (λ p. absurd (never (sym p))) (good-checked m (judged m memory) refl)
+  good-finished : (x : Read RegionMap) → ((r : Reply) → x ≡ refused r → passes r ≡ false) → Good (readToEnd s memory x)
+  good-finished (got m at) h = good-either (ltb at (length s)) (sheetRefusal (place 5 at)) (checked m (judged m memory)) (λ p. absurd (never (sym p))) (good-checked m (judged m memory) refl)
   good-finished (refused r) h = λ p. absurd (never (sym p ∙ h r refl))
 
   map-not : (r : Reply) → mapAt s ≡ refused r → passes r ≡ false
   unfolding mapAt
-  map-not = go (number s 0) refl
+  map-not = go (sheetNumber s 0) refl
     where
       passing : Read RegionMap → Bool
       passing (got m at) = true
@@ -77,7 +78,7 @@ module _ (s : List ℕ) (memory : ℕ) where
       chosen n then true r e = sym (ap passing e)
       chosen n then false r e = regions-not s n 0 (blankMap n) then r e
 
-      go : (x : Read ℕ) → number s 0 ≡ x → (r : Reply)
+      go : (x : Read ℕ) → sheetNumber s 0 ≡ x → (r : Reply)
           → next x (λ n then. cond (countFault n) (refused (place 3 0)) (regionsFrom s n 0 (blankMap n) then)) ≡ refused r → passes r ≡ false
       go (got n then) e r h = chosen n then (countFault n) r h
       go (refused q) e r h = sym (ap passing h) ∙ number-not s 0 q e
@@ -104,14 +105,14 @@ full-regions : (s : List ℕ) (k n : ℕ) (m : RegionMap) (at : ℕ) → length 
 unfolding regionsFrom Full
 full-regions s zero n m at h = h
 full-regions s (suc k) n m at h =
-    full-after (regionAt s at) (λ r then. regionsFrom s k (suc n) (withRegion n r m) then)
+    full-after (sheetRegion s at) (λ r then. regionsFrom s k (suc n) (withRegion n r m) then)
     (λ r then. full-regions s k (suc n) (withRegion n r m) then (length-set (m .regions) n r ∙ h))
 
 module _ (s : List ℕ) (memory : ℕ) where
   full-map : Full (mapAt s)
   unfolding mapAt Full
   full-map =
-      full-after (number s 0) (λ n then. cond (countFault n) (refused (place 3 0)) (regionsFrom s n 0 (blankMap n) then))
+      full-after (sheetNumber s 0) (λ n then. cond (countFault n) (refused (place 3 0)) (regionsFrom s n 0 (blankMap n) then))
       (λ n then. full-either (countFault n) (refused (place 3 0)) (regionsFrom s n 0 (blankMap n) then) tt
       (full-regions s n 0 (blankMap n) then (length-replicate 32 noRegion)))
 
@@ -121,11 +122,11 @@ module _ (s : List ℕ) (memory : ℕ) where
   full-checked m (place k p) h = length-replicate 32 noRegion
   full-checked m (plain k) h = length-replicate 32 noRegion
 
-  full-finished : (x : Read RegionMap) → Full x → length (finished s memory x .map .regions) ≡ 32
+  full-finished : (x : Read RegionMap) → Full x → length (readToEnd s memory x .map .regions) ≡ 32
   unfolding Full
   full-finished (got m at) h = by (ltb at (length s))
     where
-      by : (t : Bool) → length (cond t (refusal (place 5 at)) (checked m (judged m memory)) .map .regions) ≡ 32
+      by : (t : Bool) → length (cond t (sheetRefusal (place 5 at)) (checked m (judged m memory)) .map .regions) ≡ 32
       by true = length-replicate 32 noRegion
       by false = full-checked m (judged m memory) h
   full-finished (refused r) h = length-replicate 32 noRegion
@@ -142,33 +143,33 @@ module _ (s : List ℕ) (memory : ℕ) (old : List ℕ) where
   unfolding readInto
   made-map = by (isMap old)
     where
-      by : (t : Bool) → passes (cond t (laidInto (readSheet s memory) old) (record { reply = plain 27; words = old }) .reply) ≡ true
-          → (mapOf (cond t (laidInto (readSheet s memory) old) (record { reply = plain 27; words = old }) .words) ≡ readSheet s memory .map)
-          × Accepted (mapOf (cond t (laidInto (readSheet s memory) old) (record { reply = plain 27; words = old }) .words)) memory
+      by : (t : Bool) → passes (cond t (mapLaid (readSheet s memory) old) (record { reply = plain 27; words = old }) .reply) ≡ true
+          → (mapOf (cond t (mapLaid (readSheet s memory) old) (record { reply = plain 27; words = old }) .words) ≡ readSheet s memory .map)
+          × Accepted (mapOf (cond t (mapLaid (readSheet s memory) old) (record { reply = plain 27; words = old }) .words)) memory
       by true p =
-          let laid : mapOf (laidInto (readSheet s memory) old .words) ≡ readSheet s memory .map
+          let laid : mapOf (mapLaid (readSheet s memory) old .words) ≡ readSheet s memory .map
           = ap (λ (b : Bool). mapOf (cond b (mapWords (readSheet s memory .map)) old)) p ∙ words-read s memory in
           (laid, subst (λ (m : RegionMap). Accepted m memory) (sym laid) (sheet-accepted s memory p))
       by false p = absurd (never (sym p))
 
 -- ---- a sheet that was read into lent words, with the number that was answered
-pub record ReadAs (o : Outcome) (n : ℕ) (words : List ℕ) : Type 0 where
+pub record ReadAs (o : SheetOutcome) (n : ℕ) (words : List ℕ) : Type 0 where
   pub said : Said (o .reply) n
   pub map : n ≡ 0 → mapOf words ≡ o .map
 
-module _ (s : List ℕ) (memory : ℕ) (old words : List ℕ) (a : SheetAnswer) (n : ℕ) (size : length old ≡ 289)
+module _ (s : List ℕ) (memory : ℕ) (old words : List ℕ) (a : SheetAnswer) (n : ℕ) (size : length old ≡ mapLength)
     (e : sheetReply a ≡ readInto s memory old .reply) (w : words ≡ readInto s memory old .words) (k : n ≡ numberOf (sheetReply a)) where
-  into-words : readInto s memory old ≡ laidInto (readSheet s memory) old
+  into-words : readInto s memory old ≡ mapLaid (readSheet s memory) old
   unfolding readInto
-  into-words = rw (eq-eqb (length old) 289 size)
+  into-words = rw (eq-eqb (length old) mapLength size)
 
   answered : Said (readSheet s memory .reply) n
-  answered = said (sheet-zero a) (e ∙ ap (λ (x : Made). x .reply) into-words) k
+  answered = said (sheet-zero a) (e ∙ ap (λ (x : Laid). x .reply) into-words) k
 
   pub read-as : ReadAs (readSheet s memory) n words
   read-as =
       record {
         said = answered;
         map = λ z. ap mapOf w
-            ∙ made-map s memory old (ap (λ (x : Made). passes (x .reply)) into-words ∙ answered .passed z) .0;
+            ∙ made-map s memory old (ap (λ (x : Laid). passes (x .reply)) into-words ∙ answered .passed z) .0;
       }

@@ -12,8 +12,8 @@ use Rattle.map_records.specs.declared.map.RegionMap.{RegionMap}
 use Rattle.map_check.specs.Fault.{kindFault}
 use Rattle.map_check.specs.Reply.{Reply, place, passes}
 use Rattle.sheet.specs.Answer.{Read, got, refused, next}
-use Rattle.sheet.specs.Number.{joined, lastGroup, groups, number}
-use Rattle.sheet.specs.Region.{fieldAt, fieldsFrom, ofKind, regionAt, sheetFields}
+use Rattle.sheet.specs.Number.{joined, lastGroup, groups, sheetNumber}
+use Rattle.sheet.specs.Region.{fieldAt, fieldsFrom, ofKind, sheetRegion, sheetFields}
 use Rattle.sheet.specs.Sheet.{withRegion, regionsFrom}
 
 abbrev Refuses : {A : Type 0} → Read A → Type 0
@@ -37,39 +37,40 @@ last several b at = either (several && eqb b 0) (refused (place 2 at)) (got b (a
 
 groups-refuse : (s : List ℕ) (k : ℕ) (several : Bool) (at : ℕ) → Refuses (groups s k several at)
 unfolding groups
-groups-refuse s zero several at = refl
+groups-refuse s zero several at =
+    either (leb (length s) at) (refused (place 1 (length s))) _ refl (either (ltb (getD s at 0) 128) (lastGroup several (getD s at 0) at) _ (last several (getD s at 0) at) refl)
 groups-refuse s (suc k) several at =
     either (leb (length s) at) (refused (place 1 (length s))) _ refl
     (either (ltb (getD s at 0) 128) (lastGroup several (getD s at 0) at) _ (last several (getD s at 0) at)
-    (either (eqb k 0) (refused (place 2 at)) _ refl (joins (getD s at 0 - 128) (groups s k true (at + 1)) (groups-refuse s k true (at + 1)))))
+    (joins (getD s at 0 - 128) (groups s k true (at + 1)) (groups-refuse s k true (at + 1))))
 
-number-refuses : (s : List ℕ) (at : ℕ) → Refuses (number s at)
-number-refuses s at = groups-refuse s 8 false at
+number-refuses : (s : List ℕ) (at : ℕ) → Refuses (sheetNumber s at)
+number-refuses s at = groups-refuse s 7 false at
 
 field-refuses : (s : List ℕ) (f : Field) (r : Region) (at : ℕ) → Refuses (fieldAt s f r at)
 unfolding fieldAt
 field-refuses s f r at =
-    either (has (r .kind) f) (next (number s at) (λ v then. got (withValue f v r) then)) (got r at)
-    (after (number s at) (λ v then. got (withValue f v r) then) (number-refuses s at) (λ v then. tt)) tt
+    either (has (r .kind) f) (next (sheetNumber s at) (λ v then. got (withValue f v r) then)) (got r at)
+    (after (sheetNumber s at) (λ v then. got (withValue f v r) then) (number-refuses s at) (λ v then. tt)) tt
 
 fields-refuse : (s : List ℕ) (fs : List Field) (r : Region) (at : ℕ) → Refuses (fieldsFrom s fs r at)
 unfolding fieldsFrom
 fields-refuse s [] r at = tt
 fields-refuse s (f ∷ fs) r at = after (fieldAt s f r at) (λ known then. fieldsFrom s fs known then) (field-refuses s f r at) (λ known then. fields-refuse s fs known then)
 
-region-refuses : (s : List ℕ) (at : ℕ) → Refuses (regionAt s at)
-unfolding regionAt
+region-refuses : (s : List ℕ) (at : ℕ) → Refuses (sheetRegion s at)
+unfolding sheetRegion
 region-refuses s at =
-    after (number s at) (λ k then. cond (kindFault k) (refused (place 4 at)) (fieldsFrom s sheetFields (ofKind k) then)) (number-refuses s at)
+    after (sheetNumber s at) (λ k then. cond (kindFault k) (refused (place 4 at)) (fieldsFrom s sheetFields (ofKind k) then)) (number-refuses s at)
     (λ k then. either (kindFault k) (refused (place 4 at)) (fieldsFrom s sheetFields (ofKind k) then) refl (fields-refuse s sheetFields (ofKind k) then))
 
 regions-refuse : (s : List ℕ) (k n : ℕ) (m : RegionMap) (at : ℕ) → Refuses (regionsFrom s k n m at)
 unfolding regionsFrom
 regions-refuse s zero n m at = tt
 regions-refuse s (suc k) n m at =
-    after (regionAt s at) (λ r then. regionsFrom s k (suc n) (withRegion n r m) then) (region-refuses s at) (λ r then. regions-refuse s k (suc n) (withRegion n r m) then)
+    after (sheetRegion s at) (λ r then. regionsFrom s k (suc n) (withRegion n r m) then) (region-refuses s at) (λ r then. regions-refuse s k (suc n) (withRegion n r m) then)
 
-pub number-not : (s : List ℕ) (at : ℕ) (r : Reply) → number s at ≡ refused r → passes r ≡ false
+pub number-not : (s : List ℕ) (at : ℕ) (r : Reply) → sheetNumber s at ≡ refused r → passes r ≡ false
 number-not s at r e = subst Refuses e (number-refuses s at)
 
 pub regions-not : (s : List ℕ) (k n : ℕ) (m : RegionMap) (at : ℕ) (r : Reply) → regionsFrom s k n m at ≡ refused r → passes r ≡ false

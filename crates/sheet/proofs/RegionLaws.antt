@@ -7,21 +7,22 @@ use native.Mathlib.Numerals.{add-one}
 use lib.Dec.{ltb}
 use lib.ListN.{getD, drop, drop-of-length-le}
 use lib.Seq.{drop-cons}
-use Rattle.map_records.specs.Map.{managed, has, withValue}
+use Rattle.map_records.specs.Map.{has, withValue}
+use Rattle.map_check.specs.Fault.{kindFault}
 use Rattle.map_check.specs.Reply.{Reply, place}
 use Rattle.map_records.specs.declared.map.Region.{Region}
 use Rattle.map_records.specs.declared.map.Field.{Field}
 use Rattle.map_records.specs.declared.map.Field.the-variants.{Parent}
 use Rattle.sheet.specs.Answer.{got, refused, next}
-use Rattle.sheet.specs.Number.{number}
-use Rattle.sheet.specs.Region.{sheetFields, fieldAt, fieldsFrom, ofKind, regionAt}
+use Rattle.sheet.specs.Number.{sheetNumber}
+use Rattle.sheet.specs.Region.{sheetFields, fieldAt, fieldsFrom, ofKind, sheetRegion}
 
 module _ (s : List ℕ) (f : Field) (r : Region) (at : ℕ) where
-  pub field-read : (v then : ℕ) → has (r .kind) f ≡ true → number s at ≡ got v then → fieldAt s f r at ≡ got (withValue f v r) then
+  pub field-read : (v then : ℕ) → has (r .kind) f ≡ true → sheetNumber s at ≡ got v then → fieldAt s f r at ≡ got (withValue f v r) then
   unfolding fieldAt
   field-read v then h n = rw (h, n)
 
-  pub field-refused : (a : Reply) → has (r .kind) f ≡ true → number s at ≡ refused a → fieldAt s f r at ≡ refused a
+  pub field-refused : (a : Reply) → has (r .kind) f ≡ true → sheetNumber s at ≡ refused a → fieldAt s f r at ≡ refused a
   unfolding fieldAt
   field-refused a h n = rw (h, n)
 
@@ -47,14 +48,14 @@ unfolding fieldsFrom
 fields-done s r at i h = rw (drop-of-length-le sheetFields {i = i} h)
 
 module _ (s : List ℕ) (at : ℕ) where
-  pub region-refused : (a : Reply) → number s at ≡ refused a → refused a ≡ regionAt s at
-  unfolding regionAt
+  pub region-refused : (a : Reply) → sheetNumber s at ≡ refused a → refused a ≡ sheetRegion s at
+  unfolding sheetRegion
   region-refused a n = rw n
 
-  pub region-kind : (k then : ℕ) → number s at ≡ got k then → ltb managed k ≡ true → refused (place 4 at) ≡ regionAt s at
-  unfolding regionAt
+  pub region-kind : (k then : ℕ) → sheetNumber s at ≡ got k then → kindFault k ≡ true → refused (place 4 at) ≡ sheetRegion s at
+  unfolding sheetRegion
   region-kind k then n h = rw (n, h)
 
-  pub region-read : (k then : ℕ) → number s at ≡ got k then → ltb managed k ≡ false → fieldsFrom s sheetFields (ofKind k) then ≡ regionAt s at
-  unfolding regionAt
+  pub region-read : (k then : ℕ) → sheetNumber s at ≡ got k then → kindFault k ≡ false → fieldsFrom s sheetFields (ofKind k) then ≡ sheetRegion s at
+  unfolding sheetRegion
   region-read k then n h = rw (n, h)

@@ -2,17 +2,18 @@
 use Prim.Native.Nat.{ℕ}
 use Rattle.map_check.specs.Reply.{Reply, place, plain}
 use Rattle.map_check.specs.Check.{reply}
+use Rattle.map_records.specs.Refusal as refusal
 use Rattle.sheet.specs.declared.answer.SheetAnswer.{SheetAnswer}
 use Rattle.sheet.specs.declared.answer.SheetAnswer.the-variants.{Short, Number, Count, Kind, Tail, Record, Checked}
 
 -- document 01's number and place or nodes for each answer
 abbrev pub sheetReply : SheetAnswer → Reply
-sheetReply (Short p) = place 1 p
-sheetReply (Number p) = place 2 p
-sheetReply (Count p) = place 3 p
-sheetReply (Kind p) = place 4 p
-sheetReply (Tail p) = place 5 p
-sheetReply Record = plain 27
+sheetReply (Short p) = place refusal.SHORT p
+sheetReply (Number p) = place refusal.NUMBER p
+sheetReply (Count p) = place refusal.COUNT p
+sheetReply (Kind p) = place refusal.KIND p
+sheetReply (Tail p) = place refusal.TAIL p
+sheetReply Record = plain refusal.RECORD
 sheetReply (Checked a) = reply a
 
 -- a value and the place of the byte after it, or a refusal

@@ -6,6 +6,7 @@ use lib.Dec.{eqb, leb, ltb}
 use lib.ListN.{length, getD}
 use Rattle.map_check.specs.Reply.{place}
 use Rattle.sheet.specs.Answer.{Read, got, refused, sheetReply}
+use Rattle.map_records.specs.Refusal as refusal
 use Rattle.sheet.specs.declared.number.NumberRead.{NumberRead}
 use Rattle.sheet.specs.declared.number.NumberRead.the-variants.{Value, Refused}
 
@@ -16,19 +17,25 @@ joined low (refused r) = refused r
 
 -- the byte of a group without another after it: 2 where it is the last of several and 0
 abbrev pub lastGroup : Bool → ℕ → ℕ → Read ℕ
-lastGroup several b at = cond (several && eqb b 0) (refused (place 2 at)) (got b (at + 1))
+lastGroup several b at = cond (several && eqb b 0) (refused (place refusal.NUMBER at)) (got b (at + 1))
 
--- up to k groups of the sheet s from a place on; `several` where groups stand before it. 1 at the end; 2 at an eighth group with its high bit.
+-- one group of the sheet s, at a place; `several` where groups stand before it, and `higher` the number of those behind it. 1 at the end.
+abbrev pub group : List ℕ → Bool → ℕ → Read ℕ → Read ℕ
+group s several at higher =
+    cond (leb (length s) at) (refused (place refusal.SHORT (length s)))
+    (cond (ltb (getD s at 0) 128) (lastGroup several (getD s at 0) at) higher)
+
+-- a group, and up to k behind it: 2 at one with its high bit where none may follow
 unfoldable pub groups : List ℕ → ℕ → Bool → ℕ → Read ℕ
-groups s zero several at = refused (place 2 at)
-groups s (suc k) several at =
-    cond (leb (length s) at) (refused (place 1 (length s)))
-    (cond (ltb (getD s at 0) 128) (lastGroup several (getD s at 0) at)
-    (cond (eqb k 0) (refused (place 2 at)) (joined (getD s at 0 - 128) (groups s k true (at + 1)))))
+groups s zero several at = group s several at (refused (place refusal.NUMBER at))
+groups s (suc k) several at = group s several at (joined (getD s at 0 - 128) (groups s k true (at + 1)))
 
--- the number at a place of the sheet s
-abbrev pub number : List ℕ → ℕ → Read ℕ
-number s at = groups s 8 false at
+-- the number at a place of the sheet s: 'at most 8 groups'
+abbrev pub mostGroups : ℕ
+mostGroups = 8
+
+abbrev pub sheetNumber : List ℕ → ℕ → Read ℕ
+sheetNumber s at = groups s (mostGroups - 1) false at
 
 -- what the reader of one number answers
 abbrev pub readBy : NumberRead → Read ℕ

@@ -4,6 +4,7 @@ ghost use Rattle.map_check.specs.Reply.{numberOf};
 ghost use Rattle.sheet.specs.Answer.{sheetReply};
 use map_check::check;
 use map_check::check::MapAnswer;
+use map_records::refusal;
 
 // A refusal of document 01 at a byte place, 1 to 5; or the sheet was read to its end, and this is what
 // the map's check says; or the lent words are not those of a map.
@@ -27,12 +28,12 @@ pub fn number_of(answer: SheetAnswer) -> u64
     ensures { λ r. ⌜ r ≡ numberOf (sheetReply answer) ⌝ }
 {
     match answer {
-        SheetAnswer::Short(_) => 1,
-        SheetAnswer::Number(_) => 2,
-        SheetAnswer::Count(_) => 3,
-        SheetAnswer::Kind(_) => 4,
-        SheetAnswer::Tail(_) => 5,
-        SheetAnswer::Record => 27,
+        SheetAnswer::Short(_) => refusal::SHORT,
+        SheetAnswer::Number(_) => refusal::NUMBER,
+        SheetAnswer::Count(_) => refusal::COUNT,
+        SheetAnswer::Kind(_) => refusal::KIND,
+        SheetAnswer::Tail(_) => refusal::TAIL,
+        SheetAnswer::Record => refusal::RECORD,
         SheetAnswer::Checked(map) => check::number_of(map),
     }
 }

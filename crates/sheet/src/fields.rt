@@ -3,16 +3,16 @@ ghost use mathlib.Core.Path.{_≡_};
 ghost use Prim.Native.Nat.{_<_};
 ghost use lib.ListN.{getD};
 ghost use Rattle.map_records.specs.declared.map.Field.the-variants.{Parent};
-ghost use Rattle.sheet.specs.Region.{sheetFields, fieldAt, fieldsFrom, regionAt};
-ghost use Rattle.sheet.specs.Contracts.{regionOf};
+ghost use Rattle.sheet.specs.Region.{sheetFields, fieldAt, fieldsFrom, sheetRegion};
+ghost use Rattle.sheet.specs.Contracts.{regionReadBy};
 use crate::answer::Cursor;
 use crate::answer::SheetAnswer;
 use crate::number::NumberRead;
 use crate::number::read_number;
 use map_records::map::Field;
-use map_records::map::MANAGED;
 use map_records::map::Region;
 use map_records::map::has;
+use map_records::map::is_kind;
 
 // The fields after the kind.
 const FIELDS: usize = 8;
@@ -45,7 +45,7 @@ fn field_at(i: usize) -> Field
 
 // One field, where the region's kind has it.
 fn read_field(sheet: &[u8], from: Cursor, region: Region, field: Field) -> RegionRead
-    ensures { λ r. ⌜ regionOf r ≡ fieldAt (now (sheet .entry)) field region (from .at) ⌝ }
+    ensures { λ r. ⌜ regionReadBy r ≡ fieldAt (now (sheet .entry)) field region (from .at) ⌝ }
 {
     let kind = region.kind;
     if has(kind, field) {
@@ -62,7 +62,7 @@ fn read_field(sheet: &[u8], from: Cursor, region: Region, field: Field) -> Regio
 
 // The fields after the kind.
 fn read_fields(sheet: &[u8], from: Cursor, start: Region) -> RegionRead
-    ensures { λ r. ⌜ regionOf r ≡ fieldsFrom (now (sheet .entry)) sheetFields start (from .at) ⌝ }
+    ensures { λ r. ⌜ regionReadBy r ≡ fieldsFrom (now (sheet .entry)) sheetFields start (from .at) ⌝ }
 {
     let mut region = start;
     let mut at = from;
@@ -83,12 +83,12 @@ fn read_fields(sheet: &[u8], from: Cursor, start: Region) -> RegionRead
 
 // The region at a cursor, and the cursor past it.
 pub fn read_region(sheet: &[u8], from: Cursor) -> RegionRead
-    ensures { λ r. ⌜ regionOf r ≡ regionAt (now (sheet .entry)) (from .at) ⌝ }
+    ensures { λ r. ⌜ regionReadBy r ≡ sheetRegion (now (sheet .entry)) (from .at) ⌝ }
 {
     match read_number(sheet, from) {
         NumberRead::Refused(answer) => RegionRead::Refused(answer),
         NumberRead::Value(kind, next) => {
-            if MANAGED < kind {
+            if !is_kind(kind) {
                 return RegionRead::Refused(SheetAnswer::Kind(from.at));
             }
             let start = Region {

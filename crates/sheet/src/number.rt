@@ -1,7 +1,7 @@
 // One number of a sheet, in groups of seven bits.
 ghost use mathlib.Core.Path.{_≡_};
 ghost use Prim.Native.Nat.{_<_};
-ghost use Rattle.sheet.specs.Number.{number as numberAt};
+ghost use Rattle.sheet.specs.Number.{sheetNumber as numberAt};
 ghost use Rattle.sheet.specs.Number.{readBy};
 use crate::answer::Cursor;
 use crate::answer::SheetAnswer;

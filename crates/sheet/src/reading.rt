@@ -1,12 +1,13 @@
 // The whole sheet.
 ghost use mathlib.Core.Path.{_≡_};
 ghost use lib.ListN.{length};
-ghost use Rattle.map_records.specs.Map.{emptyMap};
+ghost use Rattle.map_records.specs.Map.{blankMap};
 ghost use Rattle.map_records.specs.Words.{mapOf};
 ghost use Rattle.map_check.specs.Reply.{passes};
 ghost use Rattle.sheet.specs.Answer.{sheetReply};
 ghost use Rattle.sheet.specs.Sheet.{readSheet, readInto};
-ghost use Rattle.sheet.specs.Contracts.{Reads};
+ghost use Rattle.sheet.specs.Contracts.{ReadsMap};
+ghost use Rattle.map_records.specs.Limits.{mapLength};
 use crate::answer::Cursor;
 use crate::answer::SheetAnswer;
 use crate::number::NumberRead;
@@ -15,18 +16,20 @@ use crate::regions::Progress;
 use crate::regions::read_regions;
 use map_check::check::accepts;
 use map_check::check::check_map;
+use map_records::map::REGIONS;
+use map_records::words::MAP_WORDS;
 use map_records::words::copy_words;
 use map_records::words::put_region_count;
 
 // The sheet's map, laid into words that are all zero: accepted, or the refusal.
 fn read_map(sheet: &[u8], memory_length: u64, map: &mut [u64]) -> SheetAnswer
-    requires { ⌜ (length (now map) ≡ 289) × (mapOf (now map) ≡ emptyMap) ⌝ }
-    ensures { λ r. ⌜ Reads (readSheet (now (sheet .entry)) «memory_length») r (now (map .exit)) ⌝ }
+    requires { ⌜ (length (now map) ≡ mapLength) × (mapOf (now map) ≡ blankMap 0) ⌝ }
+    ensures { λ r. ⌜ ReadsMap (readSheet (now (sheet .entry)) «memory_length») r (now (map .exit)) ⌝ }
 {
     match read_number(sheet, Cursor { at: 0 }) {
         NumberRead::Refused(answer) => answer,
         NumberRead::Value(count, next) => {
-            if (count == 0) | (32 < count) {
+            if (count == 0) | ((REGIONS as u64) < count) {
                 return SheetAnswer::Count(0);
             }
             put_region_count(map, count as usize);
@@ -64,10 +67,10 @@ pub fn read_sheet(sheet: &[u8], memory_length: u64, map: &mut [u64]) -> SheetAns
     ensures { λ r. ⌜ (sheetReply r ≡ readInto (now (sheet .entry)) «memory_length» (now (map .entry)) .reply)
         × (now (map .exit) ≡ readInto (now (sheet .entry)) «memory_length» (now (map .entry)) .words) ⌝ }
 {
-    if map.len() != 289 {
+    if map.len() != MAP_WORDS {
         return SheetAnswer::Record;
     }
-    let mut read = [0u64; 289];
+    let mut read = [0u64; MAP_WORDS];
     let answer = read_map(sheet, memory_length, &mut read);
     if is_accepted(answer) {
         copy_words(map, &read);

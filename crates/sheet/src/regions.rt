@@ -3,8 +3,10 @@ ghost use mathlib.Core.Path.{_≡_};
 ghost use Prim.Native.Nat.{_≤_};
 ghost use lib.ListN.{length};
 ghost use Rattle.map_records.specs.Words.{mapOf};
-ghost use Rattle.sheet.specs.Sheet.{regionsFrom, blankMap};
+ghost use Rattle.sheet.specs.Sheet.{regionsFrom};
+ghost use Rattle.map_records.specs.Map.{blankMap};
 ghost use Rattle.sheet.specs.Contracts.{progressOf};
+ghost use Rattle.map_records.specs.Limits.{mapLength, mostRegions};
 use crate::answer::Cursor;
 use crate::answer::SheetAnswer;
 use crate::fields::RegionRead;
@@ -19,10 +21,10 @@ pub enum Progress {
 
 // `count` regions from a cursor on, laid into a blank map.
 pub fn read_regions(sheet: &[u8], from: Cursor, count: usize, map: &mut [u64]) -> Progress
-    requires { ⌜ count ≤ 32 ⌝ }
-    requires { ⌜ (length (now map) ≡ 289) × (mapOf (now map) ≡ blankMap count) ⌝ }
+    requires { ⌜ count ≤ mostRegions ⌝ }
+    requires { ⌜ (length (now map) ≡ mapLength) × (mapOf (now map) ≡ blankMap count) ⌝ }
     ensures { λ r. ⌜ (progressOf r (mapOf (now (map .exit))) ≡ regionsFrom (now (sheet .entry)) count 0 (blankMap count) (from .at))
-        × (length (now (map .exit)) ≡ 289) ⌝ }
+        × (length (now (map .exit)) ≡ mapLength) ⌝ }
 {
     let mut at = from;
     let mut n: usize = 0;

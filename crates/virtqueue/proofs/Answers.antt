@@ -32,17 +32,17 @@ step-answer-injective = injective answerOf outcomeOf outcome-back
 
 endBy : run.End → RunEnd
 endBy run.allDone = end.AllDone
-endBy run.idle = end.Idle
+endBy run.wentIdle = end.Idle
 endBy (run.refusedBy n) = end.Refused n
 
-end-back : (e : RunEnd) → endBy (run.endOf e) ≡ e
+end-back : (e : RunEnd) → endBy (run.runEndOf e) ≡ e
 unfolding endBy
 end-back end.AllDone = refl
 end-back end.Idle = refl
 end-back (end.Refused n) = refl
 
-pub run-end-injective : (a b : RunEnd) → run.endOf a ≡ run.endOf b → a ≡ b
-run-end-injective = injective run.endOf endBy end-back
+pub run-end-injective : (a b : RunEnd) → run.runEndOf a ≡ run.runEndOf b → a ≡ b
+run-end-injective = injective run.runEndOf endBy end-back
 
 queueAnswerOf : Reply → QueueAnswer
 queueAnswerOf r = cond (eqb (numberOf r) 0) queue.Done (cond (eqb (numberOf r) 16) queue.Queue queue.Record)

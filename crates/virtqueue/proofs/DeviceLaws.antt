@@ -9,8 +9,8 @@ use borrow.Author.Tests.{eqb-true, eqb-false}
 use Rattle.map_records.specs.declared.view.FlatView.{FlatView}
 use Rattle.map_check.proofs.Bools.{never, and-fst, and-snd}
 use Rattle.device_words.specs.Device.{MemoryDevice, noBlocks, withPlugged, deviceOk}
-use Rattle.device_words.specs.Request.{requestOf, plug, unplug, unplugAll, answered, withRun, isAck, changedBy}
-use Rattle.device_words.specs.Words.{isDevice, deviceOf}
+use Rattle.device_words.specs.Request.{requestOf, plugType, unplugType, unplugAllType, answered, withRun, isAck, changedBy}
+use Rattle.device_words.specs.Words.{isDevice, deviceOf, deviceLength}
 use Rattle.device_words.proofs.TableLaws.{table-length}
 use Rattle.device_words.proofs.DeviceWords.{device-at, device-none, none-refused, plugged-length, pins-length, words-of}
 use Rattle.guest_view.specs.View.{viewOk}
@@ -24,13 +24,13 @@ use Rattle.virtqueue.specs.declared.queue.SplitQueue.{SplitQueue}
 abbrev pub Tables : MemoryDevice → Type 0
 Tables d = (length (d .plugged) ≡ 16) × (length (d .pinned) ≡ 16)
 
-pub tables : (w : List ℕ) → length w ≡ 37 → Tables (deviceOf w)
+pub tables : (w : List ℕ) → length w ≡ deviceLength → Tables (deviceOf w)
 tables w l = rw (device-at w l) (plugged-length w l, pins-length w l)
 
 -- a step keeps the lengths of the device's tables
 carried-tables : (d : MemoryDevice) (s : List ℕ) → Tables d → Tables (carrying d s .device)
 unfolding carrying changedBy
-carried-tables d s t = go (isAck (answered d (requestOf s))) (eqb (requestOf s .kind) plug) (eqb (requestOf s .kind) unplug) (eqb (requestOf s .kind) unplugAll)
+carried-tables d s t = go (isAck (answered d (requestOf s))) (eqb (requestOf s .kind) plugType) (eqb (requestOf s .kind) unplugType) (eqb (requestOf s .kind) unplugAllType)
   where
     go : (a x y z : Bool)
         → Tables (cond a (withPlugged d (cond x (withRun d (requestOf s) true) (cond y (withRun d (requestOf s) false) (cond z noBlocks (d .plugged))))) d)
@@ -53,11 +53,11 @@ pub laid-back : (w : List ℕ) → laid w (deviceOf w) ≡ w
 laid-back w = go (isDevice w) refl
   where
     go : (b : Bool) → isDevice w ≡ b → laid w (deviceOf w) ≡ w
-    go true h = rw h (words-of w (eqb-true (length w) 37 h))
+    go true h = rw h (words-of w (eqb-true (length w) deviceLength h))
     go false h = rw h
 
 -- words of another number are refused, so that records that 27 lets pass have a whole device
-pub refused-short : (w : List ℕ) → (length w ≡ 37 → ⊥) → deviceOk (deviceOf w) ≡ false
+pub refused-short : (w : List ℕ) → (length w ≡ deviceLength → ⊥) → deviceOk (deviceOf w) ≡ false
 refused-short w n = ap deviceOk (device-none w n) ∙ none-refused
 
 pub full : (v : FlatView) (w : List ℕ) (q : SplitQueue) (n : ℕ) → recordsOk v (deviceOf w) q n ≡ true → isDevice w ≡ true
@@ -68,9 +68,9 @@ full v w q n h = go (isDevice w) refl
     go true e = refl
     go false e =
         let y = and-snd (viewOk v n (deviceOf w .«region_size»)) (deviceOk (deviceOf w) && queueOk q) h in
-        absurd (never (sym (and-fst (deviceOk (deviceOf w)) (queueOk q) y) ∙ refused-short w (eqb-false (length w) 37 e)))
+        absurd (never (sym (and-fst (deviceOk (deviceOf w)) (queueOk q) y) ∙ refused-short w (eqb-false (length w) deviceLength e)))
 
-pub records-short : (v : FlatView) (w : List ℕ) (q : SplitQueue) (n : ℕ) → (length w ≡ 37 → ⊥) → false ≡ recordsOk v (deviceOf w) q n
+pub records-short : (v : FlatView) (w : List ℕ) (q : SplitQueue) (n : ℕ) → (length w ≡ deviceLength → ⊥) → false ≡ recordsOk v (deviceOf w) q n
 unfolding recordsOk
 records-short v w q n l = rw (refused-short w l) (go (viewOk v n (deviceOf w .«region_size»)))
   where

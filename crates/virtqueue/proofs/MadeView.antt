@@ -1,6 +1,6 @@
 -- A view that is made of an accepted map keeps 27, with a device of the map's managed region and without a device. Assumes nothing.
 use mathlib.Core.Path.{_≡_, refl, sym, ap, _∙_, subst}
-use mathlib.Core.Bool.{Bool, true, false, _||_, not}
+use mathlib.Core.Bool.{Bool, true, false, _||_, not, or-true}
 use mathlib.Core.List.{List, [], _∷_}
 use mathlib.Core.Logic.{⊎-elim}
 use Prim.Native.Nat.{ℕ, zero, suc, _+_, _-_, _≤_, _<_}
@@ -9,9 +9,9 @@ use native.Mathlib.Omega.{arith}
 use lib.Dec.{eqb, ltb}
 use lib.ListN.{length, getD, replicate, List·getD-append}
 use borrow.Author.Tests.{lt-ltb, eq-eqb, ne-eqb, eqb-true, eqb-false}
-use Rattle.map_records.specs.Map.{ram, mmio, managed, region}
+use Rattle.map_records.specs.Map.{mmio, managed, hasMemory, region}
 use Rattle.map_check.specs.Check.{Accepted}
-use Rattle.region_map.specs.FlatList.{answerOf, lookup, Entry, Chain, Longest}
+use Rattle.region_map.specs.FlatList.{rangeAnswer, lookup, ValuedEntry, LongestFrom, Longest}
 use Rattle.region_map.specs.Flatten.{backingOf, flatList, viewHolding}
 use Rattle.map_records.specs.View.{noRange}
 use Rattle.region_map.specs.ViewRules.{LawfulRange, Lawful}
@@ -32,9 +32,9 @@ use Rattle.guest_view.proofs.RuleLaws.{range-of, agree-of, pair-of, entry-of, v
 
 -- a range of a list of longest runs: it carries its region's values, and the list gives its last address its last offset
 module _ (backing : ℕ → Backing) where
-  run-at : (x : FlatRange) (xs : List FlatRange) (k : ℕ) → Chain backing x xs → k < length (x ∷ xs)
-      → Entry backing (getD (x ∷ xs) k noRange) × (x .first .0 ≤ getD (x ∷ xs) k noRange .last .0)
-      × (lookup (x ∷ xs) (getD (x ∷ xs) k noRange .last .0) ≡ answerOf (getD (x ∷ xs) k noRange) (getD (x ∷ xs) k noRange .last .0))
+  run-at : (x : FlatRange) (xs : List FlatRange) (k : ℕ) → LongestFrom backing x xs → k < length (x ∷ xs)
+      → ValuedEntry backing (getD (x ∷ xs) k noRange) × (x .first .0 ≤ getD (x ∷ xs) k noRange .last .0)
+      × (lookup (x ∷ xs) (getD (x ∷ xs) k noRange .last .0) ≡ rangeAnswer (getD (x ∷ xs) k noRange) (getD (x ∷ xs) k noRange .last .0))
   run-at x xs zero c h = let e = sound x xs c in (e, e .order, here backing x xs (x .last .0) (e .order) (omega arith))
   run-at x [] (suc k) c h = absurd (omega arith)
   run-at x (y ∷ ys) (suc k) c h =
@@ -45,7 +45,7 @@ module _ (backing : ℕ → Backing) where
       (q .0, omega arith, later backing x (y ∷ ys) (getD (y ∷ ys) k noRange .last .0) (omega arith) ∙ q .2)
 
   run-of : (l : List FlatRange) (k : ℕ) → Longest backing l → k < length l
-      → Entry backing (getD l k noRange) × (lookup l (getD l k noRange .last .0) ≡ answerOf (getD l k noRange) (getD l k noRange .last .0))
+      → ValuedEntry backing (getD l k noRange) × (lookup l (getD l k noRange .last .0) ≡ rangeAnswer (getD l k noRange) (getD l k noRange .last .0))
   run-of [] k c h = absurd (omega arith)
   run-of (x ∷ xs) k c h = let q = run-at x xs k c h in (q .0, q .2)
 
@@ -70,7 +70,7 @@ module _ (m : RegionMap) (memory : ℕ) (ok : Accepted m memory) (few : length (
   unfolding viewHolding
   managed-range k h e = go (getD (flatList m) k noRange) (List·getD-append (flatList m) (replicate (256 - length (flatList m)) noRange) noRange k h) (run-of (backingOf m) (flatList m) k (list-longest m) h) e
     where
-      go : (r : FlatRange) → rangeOf (viewHolding (flatList m)) k ≡ r → Entry (backingOf m) r × (lookup (flatList m) (r .last .0) ≡ answerOf r (r .last .0))
+      go : (r : FlatRange) → rangeOf (viewHolding (flatList m)) k ≡ r → ValuedEntry (backingOf m) r × (lookup (flatList m) (r .last .0) ≡ rangeAnswer r (r .last .0))
           → rangeOf (viewHolding (flatList m)) k .kind ≡ managed → InManaged (rangeOf (viewHolding (flatList m)) k)
       go r is q e =
           let leaf = root-leaf m memory ok (r .last .0) (r .region) (record { 0 = lastOffset r }) (sym (list-gives m (r .last .0)) ∙ q .1) in
@@ -90,19 +90,18 @@ module _ (m : RegionMap) (memory : ℕ) (ok : Accepted m memory) (few : length (
   made-ok bound managed-in = go (viewHolding (flatList m)) (made-lawful m memory ok few) managed-in
     where
       kind-ok : (r : FlatRange) → LawfulRange m memory r → kindOk r ≡ true
-      kind-ok r f = pick (eqb (r .kind) ram) refl (eqb (r .kind) mmio) refl
+      kind-ok r f = pick (eqb (r .kind) mmio) refl
         where
-          pick : (x : Bool) → eqb (r .kind) ram ≡ x → (y : Bool) → eqb (r .kind) mmio ≡ y → (x || y || eqb (r .kind) managed) ≡ true
-          pick true p y q = refl
-          pick false p true q = refl
-          pick false p false q = eq-eqb (r .kind) managed (f .kind (eqb-false (r .kind) ram p) (eqb-false (r .kind) mmio q))
+          pick : (x : Bool) → eqb (r .kind) mmio ≡ x → (hasMemory (r .kind) || x) ≡ true
+          pick true p = or-true (hasMemory (r .kind))
+          pick false p = rw (f .kind (eqb-false (r .kind) mmio p))
 
       memory-ok : (r : FlatRange) → LawfulRange m memory r → memoryOk memory r ≡ true
-      memory-ok r f = pick (eqb (r .kind) mmio) refl
+      memory-ok r f = pick (hasMemory (r .kind)) refl
         where
-          pick : (x : Bool) → eqb (r .kind) mmio ≡ x → (x || ltb (r .base + lastOffset r) memory) ≡ true
-          pick true p = refl
-          pick false p = lt-ltb (r .base + lastOffset r) memory (f .bytes (eqb-false (r .kind) mmio p))
+          pick : (x : Bool) → hasMemory (r .kind) ≡ x → (not x || ltb (r .base + lastOffset r) memory) ≡ true
+          pick true p = lt-ltb (r .base + lastOffset r) memory (f .bytes p)
+          pick false p = refl
 
       managed-ok : (r : FlatRange) → (r .kind ≡ managed → lastOffset r < bound) → managedOk bound r ≡ true
       managed-ok r f = pick (eqb (r .kind) managed) refl
@@ -115,7 +114,7 @@ module _ (m : RegionMap) (memory : ℕ) (ok : Accepted m memory) (few : length (
       go v l inside = view-of v memory bound (l .few) (all-of (entryOk v memory bound) (v .count) (λ k h.
           let f = l .each k h in
           entry-of v memory bound k
-          (range-of memory bound (rangeOf v k) (record { order = f .order; last = f .last; offset = f .offset; number = f .number; kind = kind-ok (rangeOf v k) f; room = memory-ok (rangeOf v k) f; inside = managed-ok (rangeOf v k) (inside k h) }))
+          (range-of memory bound (rangeOf v k) (record { order = f .order; last = f .last; offset = f .offset; known = f .known; kind = kind-ok (rangeOf v k) f; room = memory-ok (rangeOf v k) f; inside = managed-ok (rangeOf v k) (inside k h) }))
           (all-of (λ j. pairOk (rangeOf v j) (rangeOf v k)) k (λ j p.
           let q : j < v .count = omega arith in
           pair-of (rangeOf v j) (rangeOf v k) (l .ascending j k p h) (agree-of (rangeOf v j) (rangeOf v k) (l .kinds j k q h) (l .bases j k q h))))))

@@ -8,7 +8,7 @@ use Rattle.map_records.specs.declared.view.FlatView.{FlatView}
 use Rattle.map_check.proofs.Bools.{never, and-fst, and-snd}
 use Rattle.device_words.specs.Table.{bitAt}
 use Rattle.device_words.specs.Device.{MemoryDevice, fresh, deviceOk}
-use Rattle.device_words.specs.Request.{Outcome}
+use Rattle.device_words.specs.Request.{RequestOutcome}
 use Rattle.device_words.proofs.TableLaws.{zero-bit}
 use Rattle.guest_view.specs.Guest.{Guest, byView}
 use Rattle.guest_view.specs.View.{viewOk}
@@ -45,10 +45,10 @@ module _ (v : FlatView) (d : MemoryDevice) (q : SplitQueue) (memory : List ℕ) 
           let k = is ∙ serving g d q memory notify (ap (λ (f : Effect MemoryDevice). f .answer) (sym is) ∙ e) in
           let o = carry-through d (requestRead v d q memory) (device-ok v d q (length memory) r) in
           record {
-            reply = ap (λ (x : Outcome). x .reply) o;
-            device = ap (λ (f : Effect MemoryDevice). f .device) k ∙ sym (ap (λ (x : Outcome). x .device) o);
+            reply = ap (λ (x : RequestOutcome). x .reply) o;
+            device = ap (λ (f : Effect MemoryDevice). f .device) k ∙ sym (ap (λ (x : RequestOutcome). x .device) o);
             left = ap (λ (f : Effect MemoryDevice). f .memory) k
-                ∙ ap (λ (x : Outcome). servedMemory memory (responsePlaces (g .place) (comesTo g memory q)) (x .response) (usedPlaces (g .place) q) (usedBytes (q .«next_used») (entry g memory q))) (sym o);
+                ∙ ap (λ (x : RequestOutcome). servedMemory memory (responsePlaces (g .place) (comesTo g memory q)) (x .response) (usedPlaces (g .place) q) (usedBytes (q .«next_used») (entry g memory q))) (sym o);
           }
       go false r =
           let is : stepped v d q memory ≡ unmoved (refused 27) d q memory = rw r in

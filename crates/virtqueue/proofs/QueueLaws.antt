@@ -5,7 +5,7 @@ use Prim.Native.Nat.{ℕ, _+_, _*_, _%_, _^_, _≤_}
 use native.Mathlib.Omega.{arith}
 use lib.Dec.{eqb, leb}
 use borrow.Author.Tests.{leb-true, eqb-true}
-use Rattle.map_check.specs.Fault.{limit}
+use Rattle.map_records.specs.Limits.{limit}
 use Rattle.map_check.proofs.Bools.{and-fst, and-snd}
 use Rattle.virtqueue.specs.Queue.{sizeOk, areaOk, areasOk, stopOk, queueOk}
 use Rattle.virtqueue.specs.declared.queue.SplitQueue.{SplitQueue}

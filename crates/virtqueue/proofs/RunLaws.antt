@@ -14,14 +14,14 @@ use Rattle.guest_view.specs.Guest.{byView}
 use Rattle.virtqueue.specs.Queue.{queueOk}
 use Rattle.virtqueue.specs.Step.{Answer, refused, Effect, steppedBy, recordsOk, stepped}
 use Rattle.virtqueue.specs.Step as step
-use Rattle.virtqueue.specs.Run.{judgedStep, RunEffect, runEnds, endOf, goesOn, stepsBy, ran, RunDoes}
+use Rattle.virtqueue.specs.Run.{judgedStep, RunEffect, runEnds, runEndOf, goesOn, stepsBy, ran, RunDoes}
 use Rattle.virtqueue.specs.declared.queue.SplitQueue.{SplitQueue}
 use Rattle.virtqueue.specs.declared.step.StepOutcome.the-variants as outcome
 use Rattle.virtqueue.specs.declared.step.Moved.{Moved}
 use Rattle.virtqueue.specs.declared.run.RunEnd.{RunEnd}
 use Rattle.virtqueue.specs.declared.run.RunEnd.the-variants as end
 use Rattle.virtqueue.specs.declared.run.Ran.{Ran}
-use Rattle.device_words.specs.Words.{isDevice, deviceOf, deviceWords}
+use Rattle.device_words.specs.Words.{isDevice, deviceOf, deviceWords, deviceLength}
 use Rattle.virtqueue.specs.Does.{answerOf}
 use Rattle.virtqueue.proofs.DeviceLaws.{tables, step-tables, laid-back, full}
 use Rattle.virtqueue.proofs.StepLaws.{Left}
@@ -35,7 +35,7 @@ stepsFrom v = stepsBy (judgedStep v)
 pub record Running (v : FlatView) (most : ℕ) (memory₀ : List ℕ) (d₀ : MemoryDevice) (q₀ : SplitQueue) (memory w : List ℕ) (q : SplitQueue) (served : ℕ) (notified : Bool) : Type 0 where
   pub low : served ≤ most
   pub same : length memory ≡ length memory₀
-  pub words : length w ≡ 37
+  pub words : length w ≡ deviceLength
   pub device : deviceOk (deviceOf w) ≡ true
   pub queue : queueOk q ≡ true
   pub rest : stepsFrom v (most - served) served notified (deviceOf w) q memory ≡ stepsFrom v most 0 false d₀ q₀ memory₀
@@ -43,10 +43,10 @@ pub record Running (v : FlatView) (most : ℕ) (memory₀ : List ℕ) (d₀ : Me
 -- what the loop leaves
 abbrev pub Ends : FlatView → ℕ → List ℕ → MemoryDevice → SplitQueue → ℕ → Bool → RunEnd → SplitQueue → List ℕ → List ℕ → Type 0
 Ends v most memory₀ d₀ q₀ served notified e q w memory =
-    runEnds served notified (endOf e) (deviceOf w) q memory ≡ stepsFrom v most 0 false d₀ q₀ memory₀
+    runEnds served notified (runEndOf e) (deviceOf w) q memory ≡ stepsFrom v most 0 false d₀ q₀ memory₀
 
 module _ (v : FlatView) (most : ℕ) (memory₀ w₀ : List ℕ) (q₀ : SplitQueue) where
-  pub run-starts : length w₀ ≡ 37 → deviceOk (deviceOf w₀) ≡ true → queueOk q₀ ≡ true → Running v most memory₀ (deviceOf w₀) q₀ memory₀ w₀ q₀ 0 false
+  pub run-starts : length w₀ ≡ deviceLength → deviceOk (deviceOf w₀) ≡ true → queueOk q₀ ≡ true → Running v most memory₀ (deviceOf w₀) q₀ memory₀ w₀ q₀ 0 false
   run-starts l h k =
       let e : most - 0 ≡ most = omega arith in
       record { low = omega arith; same = refl; words = l; device = h; queue = k; rest = rw e }
@@ -65,7 +65,7 @@ module _ (v : FlatView) (most : ℕ) (memory₀ : List ℕ) (d₀ : MemoryDevice
     back : deviceOf x ≡ steppedBy (byView v d) d q memory .device
     back =
         let k = step-tables (byView v d) d q memory (tables w (r .words)) in
-        ap deviceOf (left .2 ∙ (let x = eq-eqb (length w) 37 (r .words) in rw x)) ∙ record-back (steppedBy (byView v d) d q memory .device) (k .0) (k .1)
+        ap deviceOf (left .2 ∙ (let x = eq-eqb (length w) deviceLength (r .words) in rw x)) ∙ record-back (steppedBy (byView v d) d q memory .device) (k .0) (k .1)
 
     abbrev effect : Effect MemoryDevice
     effect = record { answer = answerOf (s .outcome); device = deviceOf x; queue = s .queue; memory = m }
@@ -106,14 +106,14 @@ RunLeft v w q memory k r device m = RunDoes w (ran v (deviceOf w) q memory k) r 
 module _ (v : FlatView) (w : List ℕ) (q : SplitQueue) (memory : List ℕ) (k : ℕ) where
   -- what ran comes to, where a loop that judged once left it
   left-as : (e : RunEffect) (r : Ran) (x m : List ℕ) → isDevice w ≡ true → length x ≡ length w
-      → runEnds (r .served) (r .notified) (endOf (r .end)) (deviceOf x) (r .queue) m ≡ e → RunDoes w e r x m
+      → runEnds (r .served) (r .notified) (runEndOf (r .end)) (deviceOf x) (r .queue) m ≡ e → RunDoes w e r x m
   left-as e r x m i l f =
       rw i (
         ap (λ (y : RunEffect). y .served) f,
         ap (λ (y : RunEffect). y .notified) f,
         ap (λ (y : RunEffect). y .end) f,
         ap (λ (y : RunEffect). y .queue) f,
-        sym (words-of x (l ∙ eqb-true (length w) 37 i)) ∙ ap (λ (y : RunEffect). deviceWords (y .device)) f,
+        sym (words-of x (l ∙ eqb-true (length w) deviceLength i)) ∙ ap (λ (y : RunEffect). deviceWords (y .device)) f,
         ap (λ (y : RunEffect). y .memory) f,
       )
 

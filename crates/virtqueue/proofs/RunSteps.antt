@@ -8,7 +8,7 @@ use lib.ListN.{length, set, length-set}
 use Rattle.map_records.specs.declared.view.FlatView.{FlatView}
 use Rattle.map_check.proofs.Bools.{and-fst, and-snd, and-true}
 use Rattle.device_words.specs.Device.{deviceOk, withTables}
-use Rattle.device_words.specs.Request.{requestOf, answered, isAck, acknowledged, changedBy}
+use Rattle.device_words.specs.Request.{requestOf, answered, isAck, tableAfterAck, changedBy}
 use Rattle.device_words.specs.Device.{MemoryDevice}
 use Rattle.device_words.specs.declared.request.Request.{Request}
 use Rattle.device_words.specs.declared.request.Response.{Response}
@@ -32,7 +32,7 @@ region-kept : (d : MemoryDevice) (r : Request) (x : Response) → changedBy d r 
 unfolding changedBy
 region-kept d r x = go (isAck x)
   where
-    go : (b : Bool) → cond b (withTables d (acknowledged d r) (d .pinned)) d .«region_size» ≡ d .«region_size»
+    go : (b : Bool) → cond b (withTables d (tableAfterAck d r) (d .pinned)) d .«region_size» ≡ d .«region_size»
     go true = refl
     go false = refl
 

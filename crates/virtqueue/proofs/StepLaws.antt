@@ -29,7 +29,7 @@ use Rattle.virtqueue.specs.declared.take.TakenOffer.{TakenOffer}
 use Rattle.virtqueue.specs.declared.take.TakenOffer.the-variants as offer
 use Rattle.virtqueue.specs.declared.step.StepOutcome.the-variants.{Refused, Idle, Served}
 use Rattle.virtqueue.specs.declared.step.Moved.{Moved}
-use Rattle.device_words.specs.Words.{deviceOf, deviceWords}
+use Rattle.device_words.specs.Words.{deviceOf, deviceWords, deviceLength}
 use Rattle.virtqueue.specs.Does.{DoesIn}
 use Rattle.virtqueue.proofs.DeviceLaws.{laid-back}
 use Rattle.guest_view.proofs.GuestLaws.{all-memory, reach-memory, place-below}
@@ -174,7 +174,7 @@ module _ (g : Guest) (memory : List ℕ) (request places : List ℕ) where
 abbrev pub Left : FlatView → List ℕ → SplitQueue → List ℕ → Moved → List ℕ → List ℕ → Type 0
 Left v w q memory r device m = DoesIn w (steppedBy (byView v (deviceOf w)) (deviceOf w) q memory) r device m
 
-module _ (v : FlatView) (w : List ℕ) (l : length w ≡ 37) (q : SplitQueue) (memory : List ℕ) (t : TakenOffer) (request places : List ℕ)
+module _ (v : FlatView) (w : List ℕ) (l : length w ≡ deviceLength) (q : SplitQueue) (memory : List ℕ) (t : TakenOffer) (request places : List ℕ)
     (took : Takes (byView v (deviceOf w)) memory (offered (byView v (deviceOf w)) memory q) t request places) where
   abbrev d : MemoryDevice
   d = deviceOf w
@@ -210,7 +210,7 @@ module _ (v : FlatView) (w : List ℕ) (l : length w ≡ 37) (q : SplitQueue) (m
         → Left v w q memory (record { outcome = Served notify; queue = p }) device m
     unfolding steppedBy
     judged-ready p used bytes device m f x y z u =
-        rw (judged .is, ← judged .«its-request», ← judged .«its-places», eq-eqb (length w) 37 l, f, z, u, x, y) (refl, refl, refl, refl)
+        rw (judged .is, ← judged .«its-request», ← judged .«its-places», eq-eqb (length w) deviceLength l, f, z, u, x, y) (refl, refl, refl, refl)
 
 -- 27's rules, and the step on records that keep them or not
 pub record RecordFacts (v : FlatView) (d : MemoryDevice) (q : SplitQueue) (n : ℕ) : Type 0 where

@@ -5,7 +5,7 @@ use mathlib.Core.List.{List, [], _∷_}
 use Prim.Native.Nat.{ℕ, _+_, _-_, _≤_}
 use lib.ListN.{length}
 use Rattle.map_check.specs.Check.{Accepted}
-use Rattle.region_map.specs.FlatList.{inside, answerOf, lookup, Entry, Longest}
+use Rattle.region_map.specs.FlatList.{inside, rangeAnswer, lookup, ValuedEntry, Longest}
 use Rattle.region_map.specs.Flatten.{backingOf, flatList, viewHolding}
 use Rattle.map_records.specs.View.{entries}
 use Rattle.map_records.specs.declared.map.RegionMap.{RegionMap}
@@ -17,7 +17,7 @@ use Rattle.device_words.specs.Device.{MemoryDevice}
 use Rattle.guest_view.specs.Guest.{leaf, leafIn, leafAt, leafOf, treeLeaf, guestBy, byView, byTree}
 
 -- an entry that carries its region's values answers as its region does
-entry-leaf : (m : RegionMap) (x : FlatRange) (a : ℕ) → Entry (backingOf m) x → leafIn x a ≡ leafOf m (answerOf x a)
+entry-leaf : (m : RegionMap) (x : FlatRange) (a : ℕ) → ValuedEntry (backingOf m) x → leafIn x a ≡ leafOf m (rangeAnswer x a)
 entry-leaf m x a e = ap₂ (λ (k b : ℕ). leaf (x .region) k b (x .offset .0 + (a - x .first .0))) (e .kind) (e .base)
 
 rest : (m : RegionMap) (x : FlatRange) (xs : List FlatRange) → Longest (backingOf m) (x ∷ xs) → Longest (backingOf m) xs
@@ -30,7 +30,7 @@ unfolding leafAt lookup
 list-leaf m [] a c = refl
 list-leaf m (x ∷ xs) a c = go (inside x a) (list-leaf m xs a (rest m x xs c))
   where
-    go : (b : Bool) → leafAt xs a ≡ leafOf m (lookup xs a) → cond b (leafIn x a) (leafAt xs a) ≡ leafOf m (cond b (answerOf x a) (lookup xs a))
+    go : (b : Bool) → leafAt xs a ≡ leafOf m (lookup xs a) → cond b (leafIn x a) (leafAt xs a) ≡ leafOf m (cond b (rangeAnswer x a) (lookup xs a))
     go true h = entry-leaf m x a (sound x xs c)
     go false h = h
 

@@ -7,7 +7,7 @@ use lib.ListN.{length}
 use borrow.Author.Tests.{eq-eqb}
 use Rattle.map_records.specs.declared.view.FlatView.{FlatView}
 use Rattle.device_words.specs.Device.{MemoryDevice}
-use Rattle.device_words.specs.Words.{deviceOf, deviceWords}
+use Rattle.device_words.specs.Words.{deviceOf, deviceWords, deviceLength}
 use Rattle.device_words.proofs.DeviceWords.{words-length, record-back}
 use Rattle.guest_view.specs.Guest.{byView}
 use Rattle.memory_device.specs.Record.{recordOf}
@@ -36,7 +36,7 @@ module _ (v : FlatView) (d : value.MemoryDevice) (q : SplitQueue) (memory w x m 
   same = ap (λ (e : MemoryDevice). stepped v e q memory) stands
 
   whole : laid w (stepped v (deviceOf w) q memory .device) ≡ deviceWords (after .device)
-  whole = rw (eq-eqb (length w) 37 (ap length laid-in ∙ words-length (recordOf d) (t .0) (t .1))) (ap (λ (e : Effect MemoryDevice). deviceWords (e .device)) same)
+  whole = rw (eq-eqb (length w) deviceLength (ap length laid-in ∙ words-length (recordOf d) (t .0) (t .1))) (ap (λ (e : Effect MemoryDevice). deviceWords (e .device)) same)
 
   device-is : recordOf r ≡ after .device
   device-is =

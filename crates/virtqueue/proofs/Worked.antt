@@ -8,7 +8,7 @@ use Rattle.device_words.specs.Device.{powerBelow, setupOk, tablesOk, deviceOk, 
 use Rattle.device_words.specs.Request.{bytesOf, answered, changedBy}
 use Rattle.guest_view.specs.Guest.{leafAt, allReach, addresses, written}
 use Rattle.guest_view.specs.View.{rangeOk, entryOk, viewOk}
-use Rattle.memory_device.specs.Host.{pinned}
+use Rattle.memory_device.specs.Host.{pinBlock}
 use Rattle.memory_device.specs.Request.{carriedInto}
 use Rattle.memory_device.specs.Calls.{after}
 use Rattle.virtqueue.specs.Queue.{areasOk, queueOk}
@@ -18,5 +18,5 @@ use Rattle.virtqueue.specs.Run.{stepsBy, ran}
 use Rattle.virtqueue.specs.Worked.{Row, rows, device₀, view, queue, memory, answerTo}
 
 pub worked-values : map (λ (r : Row). answerTo (r .question)) rows ≡ map (λ (r : Row). r .answer) rows
-unfolding bytesOf rows device₀ view queue memory answerTo le numberBy responseBytes wordOf wordsOf tableOf heldIn bitsIn setIn allBelow anyBelow powerBelow setupOk tablesOk deviceOk pluggedSize answered changedBy inside leafAt allReach addresses written rangeOk entryOk viewOk pinned carriedInto after areasOk queueOk visit follow endOf readable writable total firstBytes shapeOf descriptorAt fetched chainAt wayOf usedReached offerChain requestBytes responsePlaces usedPlaces usedBytes carrying steppedBy recordsOk stepped stepsBy ran
+unfolding bytesOf rows device₀ view queue memory answerTo le numberBy responseBytes wordOf wordsOf tableOf heldIn bitsIn setIn allBelow anyBelow powerBelow setupOk tablesOk deviceOk pluggedSize answered changedBy inside leafAt allReach addresses written rangeOk entryOk viewOk pinBlock carriedInto after areasOk queueOk visit follow endOf readable writable total firstBytes shapeOf descriptorAt fetched chainAt wayOf usedReached offerChain requestBytes responsePlaces usedPlaces usedBytes carrying steppedBy recordsOk stepped stepsBy ran
 worked-values = refl

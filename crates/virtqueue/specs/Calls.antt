@@ -10,7 +10,7 @@ use Rattle.guest_view.specs.Guest.{byView}
 use Rattle.memory_device.specs.Request.{carried}
 use Rattle.memory_device.specs.Calls as device
 use Rattle.virtqueue.specs.Step.{Answer, refused, idle, served, entry, comesTo, requestBytes, responsePlaces, usedPlaces, usedBytes, servedMemory, stepped}
-use Rattle.virtqueue.specs.Run.{ran}
+use Rattle.virtqueue.specs.Run.{mostSteps, ran}
 use Rattle.virtqueue.specs.declared.queue.SplitQueue.{SplitQueue}
 
 -- a call of the host or a request handed over by itself; a step; a run. Each step and run has its own view, queue record and memory: between calls the guest writes what it likes
@@ -48,7 +48,7 @@ requestsIn v (suc k) d q memory =
 abbrev pub askedBy : MemoryDevice → Call → List device.Call
 askedBy d (host c) = c ∷ []
 askedBy d (step v q memory) = requestsIn v 1 d q memory
-askedBy d (run v q memory k) = requestsIn v (min k 256) d q memory
+askedBy d (run v q memory k) = requestsIn v (min k mostSteps) d q memory
 
 -- the state after a sequence of calls, and the blocks acknowledged in less those acknowledged out, where `had` were held before
 unfoldable pub after : MemoryDevice → List Call → MemoryDevice

@@ -5,6 +5,8 @@ use mathlib.Core.Logic.{_⊎_}
 use mathlib.Core.Path.{_≡_}
 use Prim.Native.Nat.{ℕ, _+_, _≤_, _<_}
 use lib.ListN.{length}
+use Rattle.map_records.specs.Refusal as refusal
+use Rattle.device_words.specs.Bytes.{requestLength, responseLength}
 use Rattle.map_records.specs.declared.view.FlatView.{FlatView}
 use Rattle.device_words.specs.Device.{MemoryDevice}
 use Rattle.guest_view.specs.Guest.{Guest, allReach, byView}
@@ -78,35 +80,35 @@ module _ (v : FlatView) (d : MemoryDevice) (q : SplitQueue) (memory : List ℕ) 
   -- the whole chain has the bytes of a request and of a response
   pub record Shaped : Type 0 where
     pub whole : Whole
-    pub request : 24 ≤ total (readable (comesTo g memory q))
-    pub response : 10 ≤ total (writable (comesTo g memory q))
+    pub request : requestLength ≤ total (readable (comesTo g memory q))
+    pub response : responseLength ≤ total (writable (comesTo g memory q))
 
   -- What causes each answer. Each line is a sentence of document 01.
   pub data Cause : Answer → Type 0 where
     -- 27: 'a given run list, device or queue record breaks its own rules'
-    records : recordsOk v d q (length memory) ≡ false → Cause (refused 27)
+    records : recordsOk v d q (length memory) ≡ false → Cause (refused refusal.RECORD)
     -- 'stopped (same number again)'
     again : recordsOk v d q (length memory) ≡ true → (q .stop ≡ 0 → ⊥) → Cause (refused (q .stop))
     -- 17: 'a byte of a queue area that the step needs is not reachable': flags and idx, the ring's entry, a descriptor, the used element and idx
-    notices : Begun → allReach (g .reach) (q .available .0) 4 ≡ false → Cause (refused 17)
-    ring : Offered → allReach (g .reach) (ringEntry q) 2 ≡ false → Cause (refused 17)
-    table : {n i : ℕ} {late : Bool} → On n i late → fetched g memory (q .descriptors .0) i ≡ out → Cause (refused 17)
-    used : Shaped → usedReached g q ≡ false → Cause (refused 17)
+    notices : Begun → allReach (g .reach) (q .available .0) 4 ≡ false → Cause (refused refusal.RING)
+    ring : Offered → allReach (g .reach) (ringEntry q) 2 ≡ false → Cause (refused refusal.RING)
+    table : {n i : ℕ} {late : Bool} → On n i late → fetched g memory (q .descriptors .0) i ≡ out → Cause (refused refusal.RING)
+    used : Shaped → usedReached g q ≡ false → Cause (refused refusal.RING)
     -- 'idx equal to seen: idle'
     seen : Noticed → idx g memory q ≡ q .«next_available» → Cause idle
     -- 18: 'available idx more than the queue size ahead'
-    ahead : Pending → q .size < offers g memory q → Cause (refused 18)
+    ahead : Pending → q .size < offers g memory q → Cause (refused refusal.AHEAD)
     -- 19: 'head not below the queue size'
-    head : Entered → q .size ≤ entry g memory q → Cause (refused 19)
+    head : Entered → q .size ≤ entry g memory q → Cause (refused refusal.HEAD)
     -- 20: 'INDIRECT set'; 'a readable element after a writable one'; 'next not below the queue size'; 'NEXT set in the descriptor that is the queue-size-th of the chain'
-    indirect : {n : ℕ} {late : Bool} {e : Descriptor} → Meets n late e → isIndirect e ≡ true → Cause (refused 20)
-    order : {n : ℕ} {e : Descriptor} → Meets n true e → isWritable e ≡ false → Cause (refused 20)
-    astray : {n : ℕ} {e : Descriptor} → Accepts n e → hasNext e ≡ true → q .size ≤ e .next → Cause (refused 20)
-    long : {n : ℕ} {e : Descriptor} → Accepts n e → hasNext e ≡ true → n + 1 ≡ q .size → Cause (refused 20)
+    indirect : {n : ℕ} {late : Bool} {e : Descriptor} → Meets n late e → isIndirect e ≡ true → Cause (refused refusal.CHAIN)
+    order : {n : ℕ} {e : Descriptor} → Meets n true e → isWritable e ≡ false → Cause (refused refusal.CHAIN)
+    astray : {n : ℕ} {e : Descriptor} → Accepts n e → hasNext e ≡ true → q .size ≤ e .next → Cause (refused refusal.CHAIN)
+    long : {n : ℕ} {e : Descriptor} → Accepts n e → hasNext e ≡ true → n + 1 ≡ q .size → Cause (refused refusal.CHAIN)
     -- 21: 'a byte of an element is not reachable'
-    reach : {n : ℕ} {late : Bool} {e : Descriptor} → Meets n late e → misplaced late e ≡ false → reached g e ≡ false → Cause (refused 21)
+    reach : {n : ℕ} {late : Bool} {e : Descriptor} → Meets n late e → misplaced late e ≡ false → reached g e ≡ false → Cause (refused refusal.REACH)
     -- 22: 'fewer than 24 readable or 10 writable bytes'
-    short : Whole → (total (readable (comesTo g memory q)) < 24) ⊎ (total (writable (comesTo g memory q)) < 10) → Cause (refused 22)
+    short : Whole → (total (readable (comesTo g memory q)) < requestLength) ⊎ (total (writable (comesTo g memory q)) < responseLength) → Cause (refused refusal.SHAPE)
     -- 'served when neither a number nor idle ends it'; 'Notify unless available flags bit 0'
     returned : Shaped → usedReached g q ≡ true → Cause (served (notifies (flags g memory q)))
 

@@ -6,10 +6,13 @@ use lib.Seq.{sets}
 use Prim.Native.Nat.{ℕ, _+_, _-_, _^_, _≤_, _<_, min}
 use lib.Dec.{eqb, leb, ltb}
 use lib.ListN.{length, take}
+use Rattle.map_records.specs.Refusal as refusal
+use Rattle.device_words.specs.Bytes.{requestLength, responseLength}
+use Rattle.device_words.specs.Table.{tableLength}
 use Rattle.map_records.specs.declared.view.FlatView.{FlatView}
 use Rattle.map_records.specs.Words.{viewOf}
 use Rattle.device_words.specs.Device.{MemoryDevice, deviceOk}
-use Rattle.device_words.specs.Words.{deviceOf}
+use Rattle.device_words.specs.Words.{deviceOf, deviceLength}
 use Rattle.guest_view.specs.Guest.{Guest, allReach, byteAt, addresses, viewGuest, byView}
 use Rattle.virtqueue.specs.Queue.{queueOk, ringEntry, usedEntry, usedIdx}
 use Rattle.virtqueue.specs.Chain.{Chain, Entry, out, here, endOf, isWritable, misplaced, reached, chainAt}
@@ -38,12 +41,12 @@ pub record Lent (view mem : List ℕ) (block : ℕ) (plugged : List ℕ) : Type 
   pub judged : Judged view
   pub backed : Backed (viewOf view) (length mem)
   pub some : 0 < block
-  pub table : length plugged ≡ 16
+  pub table : length plugged ≡ tableLength
 
 -- the buffers for a request's bytes and for the places of its response
 pub record Buffers (request places : List ℕ) : Type 0 where
-  pub bytes : length request ≡ 24
-  pub room : length places ≡ 10
+  pub bytes : length request ≡ requestLength
+  pub room : length places ≡ responseLength
 
 -- what the whole reading half relies on
 pub record Taking (view mem : List ℕ) (block : ℕ) (plugged : List ℕ) (q : SplitQueue) (request places : List ℕ) : Type 0 where
@@ -55,7 +58,7 @@ pub record Taking (view mem : List ℕ) (block : ℕ) (plugged : List ℕ) (q : 
 pub record Stepping (view device mem : List ℕ) (q : SplitQueue) : Type 0 where
   pub judged : Judged view
   pub backed : Backed (viewOf view) (length mem)
-  pub words : length device ≡ 37
+  pub words : length device ≡ deviceLength
   pub valid : deviceOk (deviceOf device) ≡ true
   pub queue : queueOk q ≡ true
 
@@ -69,15 +72,15 @@ unfoldable pub noticesOf : Guest → List ℕ → SplitQueue → AvailableNotice
 noticesOf g memory q =
     cond (allReach (g .reach) (q .available .0) 4)
     (cond (eqb (idx g memory q) (q .«next_available»)) notices.Idle
-    (cond (leb (offers g memory q) (q .size)) (notices.Offered (notifies (flags g memory q))) (notices.Stop 18)))
-    (notices.Stop 17)
+    (cond (leb (offers g memory q) (q .size)) (notices.Offered (notifies (flags g memory q))) (notices.Stop refusal.AHEAD)))
+    (notices.Stop refusal.RING)
 
 -- the ring's entry
 unfoldable pub headOf : Guest → List ℕ → SplitQueue → HeadEntry
 headOf g memory q =
     cond (allReach (g .reach) (ringEntry q) 2)
-    (cond (ltb (entry g memory q) (q .size)) (head.At (entry g memory q)) (head.Stop 19))
-    (head.Stop 17)
+    (cond (ltb (entry g memory q) (q .size)) (head.At (entry g memory q)) (head.Stop refusal.HEAD))
+    (head.Stop refusal.RING)
 
 abbrev pub headWay : Guest → List ℕ → SplitQueue → Bool → HeadEntry → Way
 headWay g memory q notify (head.Stop k) = halted k
@@ -118,10 +121,10 @@ nothingYet = record { stop = 0; readable = 0; writable = 0; late = false }
 
 -- the lent buffers have 24 bytes and 10 places, of which no more are there
 pub record Filled (s : Gathered) (request places : List ℕ) : Type 0 where
-  pub «few-read» : s .readable ≤ 24
-  pub «few-written» : s .writable ≤ 10
-  pub «all-read» : length request ≡ 24
-  pub «all-written» : length places ≡ 10
+  pub «few-read» : s .readable ≤ requestLength
+  pub «few-written» : s .writable ≤ responseLength
+  pub «all-read» : length request ≡ requestLength
+  pub «all-written» : length places ≡ responseLength
 
 -- what an accepted element adds: bytes of the request up to 24, or places for the response up to 10
 unfoldable pub added : (ℕ → ℕ) → List ℕ → Got → Descriptor → Got
@@ -130,13 +133,13 @@ added place memory s d =
     (record {
       request = s .request;
       readable = s .readable;
-      places = sets (s .places) (s .writable) (map place (addresses (d .addr .0) (min (10 - s .writable) (d .length))));
-      writable = s .writable + min (10 - s .writable) (d .length);
+      places = sets (s .places) (s .writable) (map place (addresses (d .addr .0) (min (responseLength - s .writable) (d .length))));
+      writable = s .writable + min (responseLength - s .writable) (d .length);
       late = true;
     })
     (record {
-      request = sets (s .request) (s .readable) (map (byteAt place memory) (addresses (d .addr .0) (min (24 - s .readable) (d .length))));
-      readable = s .readable + min (24 - s .readable) (d .length);
+      request = sets (s .request) (s .readable) (map (byteAt place memory) (addresses (d .addr .0) (min (requestLength - s .readable) (d .length))));
+      readable = s .readable + min (requestLength - s .readable) (d .length);
       places = s .places;
       writable = s .writable;
       late = false;
@@ -144,7 +147,7 @@ added place memory s d =
 
 -- what one descriptor comes to: the number that ends the chain there, or 0 and what the element adds
 abbrev pub stopAt : (Descriptor → Bool) → Bool → Descriptor → ℕ
-stopAt reached late d = cond (misplaced late d) 20 (cond (reached d) 0 21)
+stopAt reached late d = cond (misplaced late d) refusal.CHAIN (cond (reached d) 0 refusal.REACH)
 
 pub record Visits (place : ℕ → ℕ) (memory : List ℕ) (reached : Descriptor → Bool) (d : Descriptor) (s : Got) (k : ℕ) (t : Got) : Type 0 where
   pub end : k ≡ stopAt reached (s .late) d
@@ -153,14 +156,14 @@ pub record Visits (place : ℕ → ℕ) (memory : List ℕ) (reached : Descripto
 -- what a chain gives up: its end, and of a whole one its first readable bytes and the places of its first writable ones
 pub record Gathers (place : ℕ → ℕ) (memory : List ℕ) (c : Chain) (k : ℕ) (t : Got) : Type 0 where
   pub end : k ≡ endOf c
-  pub «few-read» : endOf c ≡ 0 → t .readable ≤ 24
-  pub «few-written» : endOf c ≡ 0 → t .writable ≤ 10
+  pub «few-read» : endOf c ≡ 0 → t .readable ≤ requestLength
+  pub «few-written» : endOf c ≡ 0 → t .writable ≤ responseLength
   pub request : endOf c ≡ 0 → take (t .readable) (t .request) ≡ requestBytes place memory c
   pub places : endOf c ≡ 0 → take (t .writable) (t .places) ≡ responsePlaces place c
 
 -- the number that ends what was gathered: 22 where it is too short
 abbrev pub shapeFrom : Gathered → ℕ
-shapeFrom r = cond (eqb (r .stop) 0) (cond (ltb (r .readable) 24 || ltb (r .writable) 10) 22 0) (r .stop)
+shapeFrom r = cond (eqb (r .stop) 0) (cond (ltb (r .readable) requestLength || ltb (r .writable) responseLength) refusal.SHAPE 0) (r .stop)
 
 -- what the reading half of a step hands on: its offer, and of a chain that is ready the request's bytes and the places for the response
 abbrev pub Takes : Guest → List ℕ → Offer → TakenOffer → List ℕ → List ℕ → Type 0
@@ -189,4 +192,4 @@ steppedIn view device q memory = steppedBy (byView (viewOf view) (deviceOf devic
 
 -- a run on records that 27 refuses
 abbrev pub refusedRun : SplitQueue → Ran
-refusedRun q = record { served = 0; notified = false; end = end.Refused 27; queue = q }
+refusedRun q = record { served = 0; notified = false; end = end.Refused refusal.RECORD; queue = q }

@@ -2,16 +2,20 @@
 use mathlib.Core.Bool.{Bool, cond, _&&_, _||_}
 use Prim.Native.Nat.{ℕ, _+_, _-_, _*_, _%_}
 use lib.Dec.{eqb, leb}
-use Rattle.map_check.specs.Fault.{limit}
+use Rattle.map_records.specs.Limits.{limit}
 use Rattle.map_check.specs.Reply.{Reply, accepted, plain}
+use Rattle.map_records.specs.Refusal as refusal
 use Rattle.virtqueue.specs.declared.queue.SplitQueue.{SplitQueue}
 use Rattle.virtqueue.specs.declared.queue.QueueAnswer.{QueueAnswer}
 use Rattle.virtqueue.specs.declared.queue.QueueAnswer.the-variants as answer
 use Rattle.virtqueue.specs.declared.queue.QueueGiven.{QueueGiven}
 
 -- 16: 'queue size not a power of two from 1 to 256'
+abbrev pub largestQueue : ℕ
+largestQueue = 256
+
 abbrev pub sizeOk : ℕ → Bool
-sizeOk n = eqb n 1 || eqb n 2 || eqb n 4 || eqb n 8 || eqb n 16 || eqb n 32 || eqb n 64 || eqb n 128 || eqb n 256
+sizeOk n = eqb n 1 || eqb n 2 || eqb n 4 || eqb n 8 || eqb n 16 || eqb n 32 || eqb n 64 || eqb n 128 || eqb n largestQueue
 
 -- 16: an address 'not a multiple of' its alignment; 'an area ending over 2^48'
 abbrev pub areaOk : ℕ → ℕ → ℕ → Bool
@@ -24,7 +28,7 @@ areasOk size descriptors available used =
 
 -- 27: 'a stop that is neither none nor 17 to 22'; none is 0
 abbrev pub stopOk : ℕ → Bool
-stopOk s = eqb s 0 || (leb 17 s && leb s 22)
+stopOk s = eqb s 0 || (leb refusal.RING s && leb s refusal.SHAPE)
 
 -- 27 for the queue: 'rules of 16, or a stop ..'
 unfoldable pub queueOk : SplitQueue → Bool
@@ -62,17 +66,17 @@ made size descriptors available used =
             stop = 0;
           };
     })
-    (record { reply = plain 16; queue = noQueue })
+    (record { reply = plain refusal.QUEUE; queue = noQueue })
 
 -- a reset, or 27 with the record as it was
 unfoldable pub wasReset : SplitQueue → Given
-wasReset q = cond (queueOk q) (record { reply = accepted; queue = cleared q }) (record { reply = plain 27; queue = q })
+wasReset q = cond (queueOk q) (record { reply = accepted; queue = cleared q }) (record { reply = plain refusal.RECORD; queue = q })
 
 -- document 01's number for each answer
 abbrev pub queueReply : QueueAnswer → Reply
 queueReply answer.Done = accepted
-queueReply answer.Queue = plain 16
-queueReply answer.Record = plain 27
+queueReply answer.Queue = plain refusal.QUEUE
+queueReply answer.Record = plain refusal.RECORD
 
 abbrev pub givenBy : QueueGiven → Given
 givenBy g = record { reply = queueReply (g .answer); queue = g .queue }

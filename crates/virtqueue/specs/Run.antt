@@ -4,6 +4,7 @@ use mathlib.Core.List.{List}
 use mathlib.Core.Path.{_≡_}
 use Prim.Native.Nat.{ℕ, zero, suc, _+_, min}
 use lib.ListN.{length}
+use Rattle.map_records.specs.Refusal as refusal
 use Rattle.map_records.specs.declared.view.FlatView.{FlatView}
 use Rattle.map_check.specs.Reply.{Reply, accepted, plain}
 use Rattle.device_words.specs.Device.{MemoryDevice}
@@ -19,13 +20,13 @@ use Rattle.virtqueue.specs.declared.run.Ran.{Ran}
 -- 'its end: all done, idle, or the stop's number'
 pub data End : Type 0 where
   allDone : End
-  idle : End
+  wentIdle : End
   refusedBy : ℕ → End
 
 -- document 01's number
 abbrev pub endReply : End → Reply
 endReply allDone = accepted
-endReply idle = accepted
+endReply wentIdle = accepted
 endReply (refusedBy n) = plain n
 
 -- 'it returns the count of served ones, whether one of its steps notified, and its end'; with the next states and memory
@@ -43,7 +44,7 @@ runEnds count notified e d q memory = record { served = count; notified = notifi
 -- after one step: a run ends with the first idle or stop, else `rest` goes on
 abbrev pub goesOn : ℕ → Bool → (ℕ → Bool → MemoryDevice → SplitQueue → List ℕ → RunEffect) → Effect MemoryDevice → Answer → RunEffect
 goesOn count notified rest e (refused n) = runEnds count notified (refusedBy n) (e .device) (e .queue) (e .memory)
-goesOn count notified rest e step.idle = runEnds count notified idle (e .device) (e .queue) (e .memory)
+goesOn count notified rest e step.idle = runEnds count notified wentIdle (e .device) (e .queue) (e .memory)
 goesOn count notified rest e (served b) = rest (count + 1) (notified || b) (e .device) (e .queue) (e .memory)
 
 -- k more steps up to the first idle or stop, after `count` that were served; `one` gives a single step
@@ -55,21 +56,25 @@ stepsBy one (suc k) count notified d q memory = goesOn count notified (stepsBy o
 abbrev pub singleSteps : FlatView → ℕ → MemoryDevice → SplitQueue → List ℕ → RunEffect
 singleSteps v k d q memory = stepsBy (stepped v) k 0 false d q memory
 
+-- 'a k over 256 counts as 256'
+abbrev pub mostSteps : ℕ
+mostSteps = 256
+
 -- 'a k over 256 counts as 256; 0 changes nothing'; '27 comes first wherever such a record is given', for a k of 0 too
 unfoldable pub ran : FlatView → MemoryDevice → SplitQueue → List ℕ → ℕ → RunEffect
-ran v d q memory k = cond (recordsOk v d q (length memory)) (singleSteps v (min k 256) d q memory) (runEnds 0 false (refusedBy 27) d q memory)
+ran v d q memory k = cond (recordsOk v d q (length memory)) (singleSteps v (min k mostSteps) d q memory) (runEnds 0 false (refusedBy refusal.RECORD) d q memory)
 
 -- one step on records that were judged before: what a run that judges once is made of
 abbrev pub judgedStep : FlatView → MemoryDevice → SplitQueue → List ℕ → Effect MemoryDevice
 judgedStep v d q memory = steppedBy (byView v d) d q memory
 
 -- document 01's end for each end of the code
-abbrev pub endOf : RunEnd → End
-endOf end.AllDone = allDone
-endOf end.Idle = idle
-endOf (end.Refused n) = refusedBy n
+abbrev pub runEndOf : RunEnd → End
+runEndOf end.AllDone = allDone
+runEndOf end.Idle = wentIdle
+runEndOf (end.Refused n) = refusedBy n
 
 -- a run over a device in the words w returned r, and left the words `device` and memory, as e says
 abbrev pub RunDoes : List ℕ → RunEffect → Ran → List ℕ → List ℕ → Type 0
 RunDoes w e r device memory =
-    (r .served ≡ e .served) × (r .notified ≡ e .notified) × (endOf (r .end) ≡ e .end) × (r .queue ≡ e .queue) × (device ≡ laid w (e .device)) × (memory ≡ e .memory)
+    (r .served ≡ e .served) × (r .notified ≡ e .notified) × (runEndOf (r .end) ≡ e .end) × (r .queue ≡ e .queue) × (device ≡ laid w (e .device)) × (memory ≡ e .memory)

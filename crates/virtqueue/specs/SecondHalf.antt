@@ -5,6 +5,8 @@ use mathlib.Core.List.{List}
 use Prim.Native.Nat.{ℕ, _+_, _≤_, _<_}
 use lib.ListN.{length}
 use Rattle.map_records.specs.Words.{viewOf}
+use Rattle.map_records.specs.Refusal as refusal
+use Rattle.map_records.specs.Limits.{mostRanges}
 use Rattle.map_records.specs.declared.map.RegionMap.{RegionMap}
 use Rattle.map_records.specs.declared.view.FlatView.{FlatView}
 use Rattle.map_check.specs.Check.{Accepted}
@@ -23,7 +25,7 @@ Led t e = (i : ℕ) → i < e .length → t .reach (e .addr .0 + i) ≡ true
 
 -- the elements that a step comes to, each accepted or not; with records that 27 refuses it comes to none
 unfoldable pub elementsOf : FlatView → MemoryDevice → SplitQueue → List ℕ → Chain
-elementsOf v d q memory = cond (recordsOk v d q (length memory)) (comesTo (byView v d) memory q) (ended 27)
+elementsOf v d q memory = cond (recordsOk v d q (length memory)) (comesTo (byView v d) memory q) (ended refusal.RECORD)
 
 -- exactly: those accepted are led, the one rejected is not
 abbrev pub Exactly : (Descriptor → Type 0) → Chain → Type 0
@@ -48,5 +50,5 @@ pub record SecondHalf (t : Guest) (v : FlatView) (d : MemoryDevice) (q : SplitQu
 -- What the words of a view that was made of a map say: the map is accepted, its list has no more than 256 runs, and the words stand for that list.
 pub record Made (m : RegionMap) (size : ℕ) (view : List ℕ) : Type 0 where
   pub accepted : Accepted m size
-  pub few : length (flatList m) ≤ 256
+  pub few : length (flatList m) ≤ mostRanges
   pub is : viewOf view ≡ viewHolding (flatList m)

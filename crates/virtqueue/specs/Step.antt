@@ -5,8 +5,9 @@ use Prim.Native.Nat.{ℕ, _+_, _%_}
 use lib.Dec.{eqb, leb, ltb}
 use lib.ListN.{length}
 use Rattle.map_check.specs.Reply.{Reply, accepted, plain}
+use Rattle.map_records.specs.Refusal as refusal
 use Rattle.map_records.specs.declared.view.FlatView.{FlatView}
-use Rattle.device_words.specs.Bytes.{le}
+use Rattle.device_words.specs.Bytes.{le, requestLength, responseLength}
 use Rattle.device_words.specs.Device.{MemoryDevice, deviceOk}
 use Rattle.device_words.specs.Request.{requestOf, carriedOut}
 use Rattle.guest_view.specs.Guest.{Guest, allReach, addresses, byteAt, numberAt, written, byView}
@@ -52,11 +53,11 @@ unless ok k rest = cond ok rest (halted k)
 unfoldable pub wayOf : Guest → List ℕ → SplitQueue → Way
 wayOf g memory q =
     unless (eqb (q .stop) 0) (q .stop)
-    (unless (allReach (g .reach) (q .available .0) 4) 17
+    (unless (allReach (g .reach) (q .available .0) 4) refusal.RING
     (cond (eqb (idx g memory q) (q .«next_available»)) quiet
-    (unless (leb (offers g memory q) (q .size)) 18
-    (unless (allReach (g .reach) (ringEntry q) 2) 17
-    (unless (ltb (entry g memory q) (q .size)) 19
+    (unless (leb (offers g memory q) (q .size)) refusal.AHEAD
+    (unless (allReach (g .reach) (ringEntry q) 2) refusal.RING
+    (unless (ltb (entry g memory q) (q .size)) refusal.HEAD
     (along (entry g memory q) (notifies (flags g memory q)) (chainOf g memory q (entry g memory q))))))))
 
 -- The elements that a step comes to, each accepted or not, in `Chain`: 'A step comes to an element when nothing before that element's 21 in the order ends it'. A step that ends before its chain comes to none.
@@ -80,7 +81,7 @@ pub data Offer : Type 0 where
 
 -- '.. 22; used element and used idx (17)', after what ended the chain
 unfoldable pub offerChain : Guest → SplitQueue → ℕ → Bool → Chain → Offer
-offerChain g q h notify c = cond (eqb (shapeOf c) 0) (cond (usedReached g q) (ready h notify c) (stop 17)) (stop (shapeOf c))
+offerChain g q h notify c = cond (eqb (shapeOf c) 0) (cond (usedReached g q) (ready h notify c) (stop refusal.RING)) (stop (shapeOf c))
 
 -- read off the way and its chain
 abbrev pub offerOf : Guest → SplitQueue → Way → Offer
@@ -95,18 +96,21 @@ offered g memory q = offerOf g q (wayOf g memory q)
 
 -- 'the first 24 readable bytes are carried out as the request'
 unfoldable pub requestBytes : (ℕ → ℕ) → List ℕ → Chain → List ℕ
-requestBytes place memory c = map (byteAt place memory) (firstBytes 24 (readable c))
+requestBytes place memory c = map (byteAt place memory) (firstBytes requestLength (readable c))
 
 -- 'the first 10 writable bytes get the response'
 unfoldable pub responsePlaces : (ℕ → ℕ) → Chain → List ℕ
-responsePlaces place c = map place (firstBytes 10 (writable c))
+responsePlaces place c = map place (firstBytes responseLength (writable c))
 
--- 'the used slot (own count mod n) the head and 10, used idx (the device's own count) one more'
+-- 'the used slot (own count mod n) the head and 10, used idx (the device's own count) one more': ten bytes
+abbrev pub usedLength : ℕ
+usedLength = 10
+
 unfoldable pub usedPlaces : (ℕ → ℕ) → SplitQueue → List ℕ
 usedPlaces place q = map place (addresses (usedEntry q) 8 ++ addresses (usedIdx q) 2)
 
 unfoldable pub usedBytes : ℕ → ℕ → List ℕ
-usedBytes count h = le 4 h ++ le 4 10 ++ le 2 (nextIndex count)
+usedBytes count h = le 4 h ++ le 4 responseLength ++ le 2 (nextIndex count)
 
 -- what carrying a request out gives: the response's bytes, and the next state of what carried it out
 pub record Reaction (D : Type 0) : Type 0 where
@@ -172,4 +176,4 @@ recordsOk v d q memory = viewOk v memory (d .«region_size») && (deviceOk d && 
 
 -- One step over a given view. 'Reachable means .. plugged when the step began': the guest is that of the device as it is given.
 unfoldable pub stepped : FlatView → MemoryDevice → SplitQueue → List ℕ → Effect MemoryDevice
-stepped v d q memory = cond (recordsOk v d q (length memory)) (steppedBy (byView v d) d q memory) (unmoved (refused 27) d q memory)
+stepped v d q memory = cond (recordsOk v d q (length memory)) (steppedBy (byView v d) d q memory) (unmoved (refused refusal.RECORD) d q memory)

@@ -5,6 +5,7 @@ use mathlib.Core.Path.{_≡_}
 use Prim.Native.Nat.{ℕ, _<_}
 use lib.ListN.{length}
 use Rattle.map_records.specs.Map.{managed, region}
+use Rattle.map_records.specs.Refusal as refusal
 use Rattle.map_records.specs.declared.map.RegionMap.{RegionMap}
 use Rattle.map_records.specs.declared.view.FlatView.{FlatView}
 use Rattle.device_words.specs.Device.{MemoryDevice, deviceOk}
@@ -24,4 +25,4 @@ ramGuest m = guestBy (treeLeaf m) (λ o. false)
 -- 27 judges the view with no region in mind, and the device record by its own rules, whatever its region. Its requests are carried out and answered, and no byte of the guest lies in its blocks.
 unfoldable pub unmanagedStep : RegionMap → FlatView → MemoryDevice → SplitQueue → List ℕ → Effect MemoryDevice
 unmanagedStep m v d q memory =
-    cond (viewOk v (length memory) noRegionBound && (deviceOk d && queueOk q)) (steppedBy (ramGuest m) d q memory) (unmoved (refused 27) d q memory)
+    cond (viewOk v (length memory) noRegionBound && (deviceOk d && queueOk q)) (steppedBy (ramGuest m) d q memory) (unmoved (refused refusal.RECORD) d q memory)

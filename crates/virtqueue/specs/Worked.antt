@@ -4,15 +4,16 @@ use mathlib.Core.List.{List, [], _∷_, _++_}
 use Prim.Native.Nat.{ℕ}
 use lib.ListN.{replicate}
 use Rattle.map_records.specs.Map.{ram}
+use Rattle.map_records.specs.Refusal as refusal
 use Rattle.map_records.specs.declared.view.FlatView.{FlatView}
 use Rattle.map_check.specs.Reply.{passes, numberOf}
 use Rattle.device_words.specs.Bytes.{le}
 use Rattle.device_words.specs.Device.{MemoryDevice}
-use Rattle.device_words.specs.Request.{Outcome, bytesOf, forRun}
+use Rattle.device_words.specs.Request.{RequestOutcome, bytesOf, forRun}
 use Rattle.memory_device.specs.Request.{carried}
 use Rattle.memory_device.specs.SetUp.{valued}
 use Rattle.memory_device.specs.Calls as device
-use Rattle.virtqueue.specs.Run.{End, refusedBy, idle, RunEffect, ran}
+use Rattle.virtqueue.specs.Run.{End, refusedBy, wentIdle, RunEffect, mostSteps, ran}
 use Rattle.virtqueue.specs.declared.queue.SplitQueue.{SplitQueue}
 
 -- the 24 bytes of a request, after some calls on the device that was set up; or a queue of so many entries, by the count seen and the available idx
@@ -21,16 +22,16 @@ pub data Question : Type 0 where
   ring : ℕ → ℕ → ℕ → Question
 
 -- the ten bytes of a response; a refusal number; so many steps served, and the end of the run
-pub data Answer : Type 0 where
-  response : List ℕ → Answer
-  refused : ℕ → Answer
-  served : ℕ → End → Answer
+pub data Expected : Type 0 where
+  response : List ℕ → Expected
+  refused : ℕ → Expected
+  served : ℕ → End → Expected
 
 pub record Row : Type 0 where
   pub question : Question
-  pub answer : Answer
+  pub answer : Expected
 
-abbrev pub row : Question → Answer → Row
+abbrev pub row : Question → Expected → Row
 row q x = record { question = q; answer = x }
 
 -- the 24 bytes of a request. 'Types PLUG 0, UNPLUG 1, UNPLUG ALL 2, STATE 3'
@@ -47,19 +48,19 @@ abbrev pub state : ℕ → ℕ → List ℕ
 state = sent 3
 
 -- 'responses 10': type, padding, state. 'ACK 0, NACK 1, BUSY 2, ERROR 3'
-abbrev pub ten : ℕ → ℕ → Answer
+abbrev pub ten : ℕ → ℕ → Expected
 ten kind state = response (kind ∷ 0 ∷ 0 ∷ 0 ∷ 0 ∷ 0 ∷ 0 ∷ 0 ∷ state ∷ 0 ∷ [])
 
-abbrev pub ack : Answer
+abbrev pub ack : Expected
 ack = ten 0 0
 
-abbrev pub nack : Answer
+abbrev pub nack : Expected
 nack = ten 1 0
 
-abbrev pub busy : Answer
+abbrev pub busy : Expected
 busy = ten 2 0
 
-abbrev pub error : Answer
+abbrev pub error : Expected
 error = ten 3 0
 
 -- 'after P1'; 'With blocks 0 and 1 plugged'; 'With 1 pinned too'
@@ -86,9 +87,9 @@ rows =
     ∷ row (request twoPlugged (state 0x10000 3)) (ten 0 2)
     ∷ row (request onePinned (unplug 0x10000 2)) busy
     ∷ row (request onePinned (unplug 0x10000 3)) error
-    ∷ row (ring 4 0 5) (served 0 (refusedBy 18))
-    ∷ row (ring 4 0 4) (served 4 idle)
-    ∷ row (ring 4 65535 1) (served 2 idle)
+    ∷ row (ring 4 0 5) (served 0 (refusedBy refusal.AHEAD))
+    ∷ row (ring 4 0 4) (served 4 wentIdle)
+    ∷ row (ring 4 65535 1) (served 2 wentIdle)
     ∷ []
 
 -- 'Block 4,096, addr 0x10000, region 8 blocks, usable 6, requested 4', set up over a region of that size
@@ -108,13 +109,13 @@ unfoldable pub memory : ℕ → List ℕ
 memory idx =
     le 8 120 ++ le 4 24 ++ le 2 1 ++ le 2 1 ++ le 8 144 ++ le 4 10 ++ le 2 2 ++ le 2 0 ++ replicate 32 0 ++ le 2 0 ++ le 2 idx ++ replicate 92 0
 
-abbrev pub carriedAs : Outcome → Answer
+abbrev pub carriedAs : RequestOutcome → Expected
 carriedAs o = cond (passes (o .reply)) (response (o .response)) (refused (numberOf (o .reply)))
 
-abbrev pub ranAs : RunEffect → Answer
+abbrev pub ranAs : RunEffect → Expected
 ranAs r = served (r .served) (r .end)
 
 -- what the definitions answer; a queue is run to its end
-unfoldable pub answerTo : Question → Answer
+unfoldable pub answerTo : Question → Expected
 answerTo (request before bytes) = carriedAs (carried (device.after device₀ before) bytes)
-answerTo (ring n seen idx) = ranAs (ran view device₀ (queue n seen) (memory idx) 256)
+answerTo (ring n seen idx) = ranAs (ran view device₀ (queue n seen) (memory idx) mostSteps)

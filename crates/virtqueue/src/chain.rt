@@ -4,9 +4,13 @@ ghost use Prim.Native.Nat.{_≤_, _<_, min};
 ghost use lib.ListN.{length};
 ghost use Rattle.map_records.specs.Words.{viewOf};
 ghost use Rattle.guest_view.specs.Contracts.{Judged, Backed, InMemory, placeIn};
-ghost use Rattle.virtqueue.specs.Chain.{hasNext, isWritable, misplaced, descriptorAt, fetched};
+ghost use Rattle.virtqueue.specs.Chain.{hasNext, isWritable, misplaced, descriptorLength, descriptorAt, fetched};
 ghost use Rattle.virtqueue.specs.Contracts.{guestIn, entryBy, Lent, Buffers, Small};
 ghost use Rattle.virtqueue.specs.Contracts.{nothingYet, Filled, added, gotOf, VisitsIn, GathersIn};
+ghost use Rattle.map_records.specs.Limits.{limit};
+ghost use Rattle.virtqueue.specs.Queue.{largestQueue};
+use device_words::bytes::REQUEST_BYTES;
+use device_words::bytes::RESPONSE_BYTES;
 use guest_view::find::near;
 use guest_view::memory::find_places;
 use guest_view::memory::number_from;
@@ -14,6 +18,17 @@ use guest_view::memory::read_bytes;
 use guest_view::reach::reaches;
 use map_records::map::GuestAddress;
 use map_records::numbers::least;
+use map_records::refusal;
+
+// A descriptor's flags, each a bit.
+const NEXT: u64 = 1;
+
+const WRITE: u64 = 2;
+
+const INDIRECT: u64 = 4;
+
+// The bytes of a descriptor.
+const DESCRIPTOR_BYTES: usize = 16;
 
 // VIRTIO's descriptor: an element of a chain, with flags and the next entry's number.
 pub struct Descriptor {
@@ -41,25 +56,25 @@ pub struct Gathered {
 fn has_next(d: Descriptor) -> bool
     ensures { λ r. ⌜ r ≡ hasNext d ⌝ }
 {
-    d.flags % 2 == 1
+    d.flags / NEXT % 2 == 1
 }
 
 fn is_writable(d: Descriptor) -> bool
     ensures { λ r. ⌜ r ≡ isWritable d ⌝ }
 {
-    d.flags / 2 % 2 == 1
+    d.flags / WRITE % 2 == 1
 }
 
 // Is the descriptor indirect, or readable after a writable one?
 fn is_misplaced(late: bool, d: Descriptor) -> bool
     ensures { λ r. ⌜ r ≡ misplaced late d ⌝ }
 {
-    (d.flags / 4 % 2 == 1) | (late & !(d.flags / 2 % 2 == 1))
+    (d.flags / INDIRECT % 2 == 1) | (late & !(d.flags / WRITE % 2 == 1))
 }
 
 // The descriptor of sixteen bytes.
 fn descriptor_of(bytes: &[u8]) -> Descriptor
-    requires { ⌜ length (now bytes) ≡ 16 ⌝ }
+    requires { ⌜ length (now bytes) ≡ descriptorLength ⌝ }
     ensures { λ r. ⌜ (r ≡ descriptorAt (λ a. a) (now (bytes .entry)) 0) × Small r ⌝ }
 {
     let addr = number_from(bytes, 0, 8);
@@ -78,10 +93,10 @@ fn descriptor_of(bytes: &[u8]) -> Descriptor
 fn descriptor_at(view: &[u64], mem: &[u8], hint: usize, at: GuestAddress) -> Descriptor
     requires { ⌜ Judged (now view) ⌝ }
     requires { ⌜ Backed (viewOf (now view)) (length (now mem)) ⌝ }
-    requires { ⌜ InMemory (viewOf (now view)) (at .0) 16 ⌝ }
+    requires { ⌜ InMemory (viewOf (now view)) (at .0) descriptorLength ⌝ }
     ensures { λ r. ⌜ (r ≡ descriptorAt (placeIn (viewOf (now (view .entry)))) (now (mem .entry)) (at .0)) × Small r ⌝ }
 {
-    let mut bytes = [0u8; 16];
+    let mut bytes = [0u8; DESCRIPTOR_BYTES];
     read_bytes(view, mem, hint, at, &mut bytes);
     descriptor_of(&bytes)
 }
@@ -97,11 +112,11 @@ fn fetch(
     hint: usize,
 ) -> Fetched
     requires { ⌜ Lent (now view) (now mem) block (now plugged) ⌝ }
-    requires { ⌜ (table .0 ≤ 281474976710656) × (i < 65536) ⌝ }
+    requires { ⌜ (table .0 ≤ limit) × (i < 65536) ⌝ }
     ensures { λ r. ⌜ entryBy r ≡ fetched (guestIn (now (view .entry)) block (now (plugged .entry))) (now (mem .entry)) (table .0) i ⌝ }
 {
-    let at = GuestAddress(table.0 + 16 * i);
-    if reaches(view, block, plugged, hint, at, 16) {
+    let at = GuestAddress(table.0 + (DESCRIPTOR_BYTES as u64) * i);
+    if reaches(view, block, plugged, hint, at, DESCRIPTOR_BYTES as u64) {
         let d = descriptor_at(view, mem, hint, at);
         return Fetched::Here(d);
     }
@@ -135,7 +150,7 @@ fn add_element(
 {
     if is_writable(d) {
         let from = so_far.writable;
-        let end = from + fitting(10 - from, d.length);
+        let end = from + fitting(RESPONSE_BYTES - from, d.length);
         find_places(view, hint, d.addr, &mut places[from..end]);
         return Gathered {
             stop: 0,
@@ -145,7 +160,7 @@ fn add_element(
         };
     }
     let from = so_far.readable;
-    let end = from + fitting(24 - from, d.length);
+    let end = from + fitting(REQUEST_BYTES - from, d.length);
     read_bytes(view, mem, hint, d.addr, &mut request[from..end]);
     Gathered {
         stop: 0,
@@ -198,11 +213,11 @@ fn visit(
         (gotOf r (now (request .exit)) (now (places .exit))) ⌝ }
 {
     if is_misplaced(so_far.late, d) {
-        return ended(20);
+        return ended(refusal::CHAIN);
     }
     let there = near(view, hint, d.addr);
     if !reaches(view, block, plugged, there, d.addr, d.length) {
-        return ended(21);
+        return ended(refusal::REACH);
     }
     add_element(view, mem, there, d, so_far, request, places)
 }
@@ -221,7 +236,7 @@ pub fn gather(
     places: &mut [usize],
 ) -> Gathered
     requires { ⌜ Lent (now view) (now mem) block (now plugged) × Buffers (now request) (now places) ⌝ }
-    requires { ⌜ (table .0 ≤ 281474976710656) × (size ≤ 256) × (head < size) ⌝ }
+    requires { ⌜ (table .0 ≤ limit) × (size ≤ largestQueue) × (head < size) ⌝ }
     ensures { λ r. ⌜ GathersIn (now (view .entry)) (now (mem .entry)) block (now (plugged .entry)) (table .0) size head
         (r .stop) (gotOf r (now (request .exit)) (now (places .exit))) ⌝ }
 {
@@ -231,7 +246,7 @@ pub fn gather(
     while 0 < left {
         let entry = fetch(view, block, plugged, mem, table, i, hint);
         let Fetched::Here(d) = entry else {
-            return ended(17);
+            return ended(refusal::RING);
         };
         so_far = visit(view, block, plugged, mem, hint, d, so_far, request, places);
         if so_far.stop != 0 {
@@ -241,10 +256,10 @@ pub fn gather(
             return so_far;
         }
         if size <= d.next {
-            return ended(20);
+            return ended(refusal::CHAIN);
         }
         i = d.next;
         left -= 1;
     }
-    ended(20)
+    ended(refusal::CHAIN)
 }

@@ -9,16 +9,17 @@ use crate::serve::step_judged;
 use crate::step::Moved;
 use crate::step::StepOutcome;
 use device_words::rules::device_ok;
-use device_words::words::WORDS;
+use device_words::words::DEVICE_WORDS;
 use device_words::words::region_size;
 use guest_view::find::near;
 use guest_view::rules::view_ok;
+use map_records::refusal;
 
 // Do the three records keep 27's rules, over a memory of this length?
 pub fn records_ok(view: &[u64], device: &[u64], queue: SplitQueue, memory_length: u64) -> bool
     ensures { λ r. ⌜ r ≡ recordsOk (viewOf (now (view .entry))) (deviceOf (now (device .entry))) queue «memory_length» ⌝ }
 {
-    if device.len() != WORDS {
+    if device.len() != DEVICE_WORDS {
         return false;
     }
     let region = region_size(device);
@@ -36,7 +37,7 @@ pub fn step_in_place(view: &[u64], device: &mut [u64], queue: SplitQueue, mem: &
         return step_judged(view, device, queue, mem, hint);
     }
     Moved {
-        outcome: StepOutcome::Refused(27),
+        outcome: StepOutcome::Refused(refusal::RECORD as u8),
         queue: queue,
     }
 }

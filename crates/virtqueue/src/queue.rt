@@ -6,6 +6,7 @@ ghost use Rattle.virtqueue.specs.Queue.{sizeOk, areaOk, areasOk, stopOk,
 use map_records::map::GuestAddress;
 use map_records::numbers::LIMIT;
 use map_records::numbers::sum_within;
+use map_records::refusal;
 
 // The queue's size and areas, the two free-running indices, and the stop: 0 for none, or document 01's
 // number. `next_available` is what document 01 calls seen, `next_used` its own count.
@@ -32,6 +33,9 @@ pub struct QueueGiven {
     pub queue: SplitQueue,
 }
 
+// The largest size.
+const LARGEST: u64 = 256;
+
 // Is the size a power of two from 1 to 256?
 fn size_ok(n: u64) -> bool
     ensures { λ r. ⌜ r ≡ sizeOk n ⌝ }
@@ -44,7 +48,7 @@ fn size_ok(n: u64) -> bool
         | (n == 32)
         | (n == 64)
         | (n == 128)
-        | (n == 256)
+        | (n == LARGEST)
 }
 
 // Is an area aligned, with its end in the address space?
@@ -68,7 +72,7 @@ fn areas_ok(size: u16, descriptors: u64, available: u64, used: u64) -> bool
 fn stop_ok(stop: u8) -> bool
     ensures { λ r. ⌜ r ≡ stopOk stop ⌝ }
 {
-    (stop == 0) | ((17 <= stop) & (stop <= 22))
+    (stop == 0) | ((refusal::RING <= stop) & (stop <= refusal::SHAPE))
 }
 
 // The record of no queue.
@@ -150,7 +154,7 @@ pub fn number_of(answer: QueueAnswer) -> u64
 {
     match answer {
         QueueAnswer::Done => 0,
-        QueueAnswer::Queue => 16,
-        QueueAnswer::Record => 27,
+        QueueAnswer::Queue => refusal::QUEUE,
+        QueueAnswer::Record => refusal::RECORD,
     }
 }

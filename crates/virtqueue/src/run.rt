@@ -10,6 +10,7 @@ use crate::serve::step_judged;
 use crate::step::StepOutcome;
 use guest_view::find::near;
 use map_records::numbers::least;
+use map_records::refusal;
 
 // The most steps of a run.
 const STEPS: u64 = 256;
@@ -36,7 +37,7 @@ fn refused_run(queue: SplitQueue) -> Ran
     Ran {
         served: 0,
         notified: false,
-        end: RunEnd::Refused(27),
+        end: RunEnd::Refused(refusal::RECORD as u8),
         queue: queue,
     }
 }

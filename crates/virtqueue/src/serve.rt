@@ -6,11 +6,12 @@ ghost use lib.ListN.{length};
 ghost use Rattle.device_words.specs.Contracts.{Sized};
 ghost use Rattle.map_records.specs.Words.{viewOf};
 ghost use Rattle.guest_view.specs.Contracts.{Judged, Within, placeIn};
-ghost use Rattle.device_words.specs.Words.{deviceOf, deviceWords};
+ghost use Rattle.device_words.specs.Words.{deviceOf, deviceWords, deviceLength};
 ghost use Rattle.virtqueue.specs.Queue.{queueOk, stoppedBy, advanced as advancedQueue};
-ghost use Rattle.virtqueue.specs.Step.{usedPlaces, usedBytes, carrying, servedMemory};
+ghost use Rattle.virtqueue.specs.Step.{usedLength, usedPlaces, usedBytes, carrying, servedMemory};
 ghost use Rattle.virtqueue.specs.Does.{DoesIn};
 ghost use Rattle.virtqueue.specs.Contracts.{UsedIn, Stepping, steppedIn};
+ghost use Rattle.device_words.specs.Bytes.{responseLength};
 use crate::queue::SplitQueue;
 use crate::ring::used_entry;
 use crate::ring::used_idx;
@@ -19,35 +20,40 @@ use crate::step::StepOutcome;
 use crate::take::TakenOffer;
 use crate::take::take;
 use device_words::answer::respond;
+use device_words::bytes::REQUEST_BYTES;
+use device_words::bytes::RESPONSE_BYTES;
 use device_words::words::block_size;
 use device_words::words::plugged;
 use guest_view::memory::find_places;
 use guest_view::memory::write_bytes;
 
-// The places of the used ring's ten bytes: the slot's eight, then idx.
+// The used ring's bytes that a step writes: the slot's eight, and idx's two.
+const USED_BYTES: usize = 10;
+
+// Their places: the slot's, then idx's.
 fn used_places(view: &[u64], queue: SplitQueue, hint: usize, out: &mut [usize])
     requires { ⌜ Judged (now view) ⌝ }
     requires { ⌜ queueOk queue ≡ true ⌝ }
     requires { ⌜ UsedIn (viewOf (now view)) queue ⌝ }
-    requires { ⌜ length (now out) ≡ 10 ⌝ }
+    requires { ⌜ length (now out) ≡ usedLength ⌝ }
     ensures { λ _. ⌜ now (out .exit) ≡ usedPlaces (placeIn (viewOf (now (view .entry)))) queue ⌝ }
 {
     let entry = used_entry(queue.used, queue.next_used, queue.size);
     let idx = used_idx(queue.used);
     find_places(view, hint, entry, &mut out[0..8]);
-    find_places(view, hint, idx, &mut out[8..10]);
+    find_places(view, hint, idx, &mut out[8..USED_BYTES]);
 }
 
-// And the bytes: the head, 10, and the next count.
-fn used_bytes(head: u64, count: u16) -> [u8; 10]
+// And the bytes: the head, the response's length, and the next count.
+fn used_bytes(head: u64, count: u16) -> [u8; USED_BYTES]
     requires { ⌜ head < 65536 ⌝ }
     ensures { λ r. ⌜ r ≡ usedBytes count head ⌝ }
 {
     let next = std::num::wrapping_add_u16(count, 1);
-    let mut out = [0u8; 10];
+    let mut out = [0u8; USED_BYTES];
     out[0] = (head % 256) as u8;
     out[1] = (head / 256) as u8;
-    out[4] = 10;
+    out[4] = RESPONSE_BYTES as u8;
     out[8] = (next % 256) as u8;
     out[9] = (next / 256) as u8;
     out
@@ -75,13 +81,13 @@ fn stopped(queue: SplitQueue, stop: u8) -> SplitQueue
 fn serve(
     device: &mut [u64],
     mem: &mut [u8],
-    request: [u8; 24],
+    request: [u8; REQUEST_BYTES],
     places: &[usize],
     used: &[usize],
     bytes: &[u8],
 )
-    requires { ⌜ (length (now device) ≡ 37) × Sized (deviceOf (now device)) ⌝ }
-    requires { ⌜ (length (now places) ≡ 10) × Within (now places) (length (now mem)) ⌝ }
+    requires { ⌜ (length (now device) ≡ deviceLength) × Sized (deviceOf (now device)) ⌝ }
+    requires { ⌜ (length (now places) ≡ responseLength) × Within (now places) (length (now mem)) ⌝ }
     requires { ⌜ (length (now used) ≡ length (now bytes)) × Within (now used) (length (now mem)) ⌝ }
     ensures { λ _. ⌜ (now (device .exit) ≡ deviceWords (carrying (deviceOf (now (device .entry))) request .device))
         × (now (mem .exit) ≡ servedMemory (now (mem .entry)) (now (places .entry))
@@ -105,8 +111,8 @@ pub fn step_judged(
         (steppedIn (now (view .entry)) (now (device .entry)) queue (now (mem .entry)))
         r (now (device .exit)) (now (mem .exit)) ⌝ }
 {
-    let mut sent = [0u8; 24];
-    let mut places = [0usize; 10];
+    let mut sent = [0u8; REQUEST_BYTES];
+    let mut places = [0usize; RESPONSE_BYTES];
     let block = block_size(device);
     let table = plugged(device);
     let offer = take(view, block, table, queue, mem, hint, &mut sent, &mut places);
@@ -120,7 +126,7 @@ pub fn step_judged(
             queue: queue,
         },
         TakenOffer::Ready(head, notify) => {
-            let mut used = [0usize; 10];
+            let mut used = [0usize; USED_BYTES];
             used_places(view, queue, hint, &mut used);
             let bytes = used_bytes(head, queue.next_used);
             serve(device, mem, sent, &places, &used, &bytes);

@@ -7,15 +7,19 @@ ghost use Rattle.guest_view.specs.Contracts.{Judged};
 ghost use Rattle.virtqueue.specs.Queue.{queueOk};
 ghost use Rattle.virtqueue.specs.Step.{usedReached};
 ghost use Rattle.virtqueue.specs.Contracts.{guestIn, Lent, Taking, noticesOf, headOf, TakesChain, TakesAll, shapeFrom};
+ghost use Rattle.device_words.specs.Table.{tableLength};
 use crate::chain::Gathered;
 use crate::chain::gather;
 use crate::queue::SplitQueue;
 use crate::ring::ring_entry;
 use crate::ring::used_entry;
 use crate::ring::used_idx;
+use device_words::bytes::REQUEST_BYTES;
+use device_words::bytes::RESPONSE_BYTES;
 use guest_view::memory::read_number;
 use guest_view::reach::reaches;
 use map_records::map::GuestAddress;
+use map_records::refusal;
 
 // What the available ring's flags and idx say: a stop, nothing offered, or whether to notify.
 pub enum AvailableNotices {
@@ -53,7 +57,7 @@ fn notices(
 {
     let ring = queue.available;
     if !reaches(view, block, plugged, hint, ring, 4) {
-        return AvailableNotices::Stop(17);
+        return AvailableNotices::Stop(refusal::RING);
     }
     let flags = read_number(view, mem, hint, ring, 2);
     let idx = read_number(view, mem, hint, GuestAddress(ring.0 + 2), 2) as u16;
@@ -62,7 +66,7 @@ fn notices(
     }
     let distance = std::num::wrapping_sub_u16(idx, queue.next_available);
     if queue.size < distance {
-        return AvailableNotices::Stop(18);
+        return AvailableNotices::Stop(refusal::AHEAD);
     }
     AvailableNotices::Offered(flags % 2 == 0)
 }
@@ -82,19 +86,19 @@ fn head(
 {
     let entry = ring_entry(queue.available, queue.next_available, queue.size);
     if !reaches(view, block, plugged, hint, entry, 2) {
-        return HeadEntry::Stop(17);
+        return HeadEntry::Stop(refusal::RING);
     }
     let number = read_number(view, mem, hint, entry, 2);
     if number < queue.size as u64 {
         return HeadEntry::At(number);
     }
-    HeadEntry::Stop(19)
+    HeadEntry::Stop(refusal::HEAD)
 }
 
 // Are the used element and the used idx reachable?
 fn used_reached(view: &[u64], block: u64, plugged: &[u64], queue: SplitQueue, hint: usize) -> bool
     requires { ⌜ Judged (now view) ⌝ }
-    requires { ⌜ (0 < block) × (length (now plugged) ≡ 16) ⌝ }
+    requires { ⌜ (0 < block) × (length (now plugged) ≡ tableLength) ⌝ }
     requires { ⌜ queueOk queue ≡ true ⌝ }
     ensures { λ r. ⌜ r ≡ usedReached (guestIn (now (view .entry)) block (now (plugged .entry))) queue ⌝ }
 {
@@ -110,8 +114,8 @@ fn shape(gathered: Gathered) -> u8
     if gathered.stop != 0 {
         return gathered.stop;
     }
-    if (gathered.readable < 24) | (gathered.writable < 10) {
-        return 22;
+    if (gathered.readable < REQUEST_BYTES) | (gathered.writable < RESPONSE_BYTES) {
+        return refusal::SHAPE;
     }
     0
 }
@@ -153,7 +157,7 @@ fn take_chain(
         return TakenOffer::Stop(stop);
     }
     if !used_reached(view, block, plugged, queue, hint) {
-        return TakenOffer::Stop(17);
+        return TakenOffer::Stop(refusal::RING);
     }
     TakenOffer::Ready(head, notify)
 }

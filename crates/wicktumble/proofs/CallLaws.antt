@@ -7,9 +7,9 @@ use lib.ListN.{length}
 use borrow.Author.Tests.{eqb-true}
 use Rattle.map_check.proofs.Bools.{and-snd}
 use Rattle.map_check.specs.Reply.{Reply}
-use Rattle.wicktumble.specs.Result.{Told, Tells, told, tells, untold, isResult}
-use Rattle.wicktumble.specs.Contracts.{toldBy, Says, SaysReply}
-use Rattle.wicktumble.specs.Maps.{Made, Makes, makes, unmade}
+use Rattle.wicktumble.specs.Result.{Report, Returns, reportOf, replyReport, lengthRefused, isResult}
+use Rattle.wicktumble.specs.Contracts.{saidReport, Says, SaysReply}
+use Rattle.wicktumble.specs.Maps.{RecordReport, ReturnsRecord, madeRecord, unmadeRecord}
 use Rattle.wicktumble.specs.declared.result.Said.{Said}
 
 -- ---- the test of the lengths
@@ -23,22 +23,22 @@ pub result-fits : (t : Bool) (x : List ℕ) → (t && isResult x) ≡ true → l
 result-fits t x e = eqb-true (length x) 3 (and-snd t (isResult x) e)
 
 -- ---- a number and a result
-pub says : {s : Said} {n a b c : ℕ} → Says s n a b c → toldBy s ≡ told n a b c
+pub says : {s : Said} {n a b c : ℕ} → Says s n a b c → saidReport s ≡ reportOf n a b c
 says r = rw (r .number, r .first, r .second, r .third)
 
-pub told-as : {c c' : Told} {n : ℕ} {x : List ℕ} → Tells c n x → c ≡ c' → Tells c' n x
-told-as (n, x) e = (n ∙ ap (λ (y : Told). y .number) e, x ∙ ap (λ (y : Told). y .result) e)
+pub told-as : {c c' : Report} {n : ℕ} {x : List ℕ} → Returns c n x → c ≡ c' → Returns c' n x
+told-as (n, x) e = (n ∙ ap (λ (y : Report). y .number) e, x ∙ ap (λ (y : Report). y .result) e)
 
-pub untold-as : {c : Told} {x : List ℕ} → untold x ≡ c → Tells c 27 x
+pub untold-as : {c : Report} {x : List ℕ} → lengthRefused x ≡ c → Returns c 27 x
 untold-as e = told-as (refl, refl) e
 
-pub reply-told : {s : Said} {r r' : Reply} {c : Told} {n : ℕ} {x : List ℕ} → Tells (toldBy s) n x → SaysReply s r → r ≡ r' → tells r' ≡ c → Tells c n x
-reply-told t s e k = told-as t (says s ∙ ap tells e ∙ k)
+pub reply-told : {s : Said} {r r' : Reply} {c : Report} {n : ℕ} {x : List ℕ} → Returns (saidReport s) n x → SaysReply s r → r ≡ r' → replyReport r' ≡ c → Returns c n x
+reply-told t s e k = told-as t (says s ∙ ap replyReport e ∙ k)
 
 -- ---- a record beside them
-pub reply-made : {s : Said} {r r' : Reply} {c : Made} {n : ℕ} {w w' x : List ℕ}
-    → w ≡ w' → Tells (toldBy s) n x → SaysReply s r → r ≡ r' → makes w' r' ≡ c → Makes c n w x
-reply-made ew t s e k = (ew ∙ ap (λ (y : Made). y .words) k, reply-told t s e (ap (λ (y : Made). y .told) k))
+pub reply-made : {s : Said} {r r' : Reply} {c : RecordReport} {n : ℕ} {w w' x : List ℕ}
+    → w ≡ w' → Returns (saidReport s) n x → SaysReply s r → r ≡ r' → madeRecord w' r' ≡ c → ReturnsRecord c n w x
+reply-made ew t s e k = (ew ∙ ap (λ (y : RecordReport). y .words) k, reply-told t s e (ap (λ (y : RecordReport). y .told) k))
 
-pub unmade-as : {c : Made} {w x : List ℕ} → unmade w x ≡ c → Makes c 27 w x
-unmade-as e = (ap (λ (y : Made). y .words) e, untold-as (ap (λ (y : Made). y .told) e))
+pub unmade-as : {c : RecordReport} {w x : List ℕ} → unmadeRecord w x ≡ c → ReturnsRecord c 27 w x
+unmade-as e = (ap (λ (y : RecordReport). y .words) e, untold-as (ap (λ (y : RecordReport). y .told) e))

@@ -2,12 +2,12 @@
 use mathlib.Core.Path.{_≡_}
 use Prim.Native.Nat.{ℕ}
 use Rattle.map_check.specs.Reply.{Reply, numberOf}
-use Rattle.wicktumble.specs.Result.{Told, told, firstOf, secondOf}
+use Rattle.wicktumble.specs.Result.{Report, reportOf, firstOf, secondOf}
 use Rattle.wicktumble.specs.declared.result.Said.{Said}
 
 -- what the code holds before it is laid into the result
-abbrev pub toldBy : Said → Told
-toldBy s = told (s .number) (s .first) (s .second) (s .third)
+abbrev pub saidReport : Said → Report
+saidReport s = reportOf (s .number) (s .first) (s .second) (s .third)
 
 pub record Says (s : Said) (n a b c : ℕ) : Type 0 where
   pub number : s .number ≡ n

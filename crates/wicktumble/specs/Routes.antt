@@ -1,24 +1,22 @@
 -- The calls that route accesses, and the look-up in a view. Assumes nothing: these are definitions.
 use mathlib.Core.Bool.{Bool, cond, _&&_, _||_}
-use mathlib.Core.List.{List, [], _∷_}
+use mathlib.Core.List.{List}
 use Prim.Native.Nat.{ℕ}
 use lib.Dec.{eqb}
 use lib.ListN.{length}
 use Rattle.map_records.specs.Words.{viewOf}
-use Rattle.region_map.specs.Flatten.{isView}
+use Rattle.map_records.specs.Limits.{isView}
 use Rattle.device_words.specs.Words.{isDevice, deviceOf}
-use Rattle.routing.specs.Route.{Routed, answerWords, routedWith, routedWithout, RoutedAll, allWith, allWithout}
+use Rattle.routing.specs.Route.{Routed, refused, toMemory, toPort, routedWith, routedWithout, RoutedAll, allWith, allWithout}
 use Rattle.routing.specs.Look.{lookedUp}
-use Rattle.wicktumble.specs.Result.{Told, untold, isResult}
-use Rattle.wicktumble.specs.Maps.{ledTo}
+use Rattle.wicktumble.specs.Result.{Report, reportOf, lengthRefused, isResult}
+use Rattle.wicktumble.specs.Maps.{walkResult}
 
--- the four words of an answer: the number, and the three words of the result
-abbrev pub inWords : List ℕ → Told
-inWords [] = record { number = 0; result = [] }
-inWords (n ∷ result) = record { number = n; result = result }
-
-abbrev pub routeTold : Routed → Told
-routeTold r = inWords (answerWords r)
+-- the number of a refusal, or 1 and the memory place, or 2, the port and the offset
+abbrev pub routeResult : Routed → Report
+routeResult (refused n) = reportOf n 0 0 0
+routeResult (toMemory p) = reportOf 0 1 p 0
+routeResult (toPort p o) = reportOf 0 2 p o
 
 -- a device of no words is none: 27 then judges no region, and no block is plugged
 abbrev pub isNone : List ℕ → Bool
@@ -31,8 +29,8 @@ routeBy view memory device a w =
 abbrev pub routeFits : List ℕ → List ℕ → List ℕ → Bool
 routeFits view device result = isView view && ((isNone device || isDevice device) && isResult result)
 
-unfoldable pub routeCall : List ℕ → ℕ → List ℕ → ℕ → ℕ → List ℕ → Told
-routeCall view memory device a w result = cond (routeFits view device result) (routeTold (routeBy view memory device a w)) (untold result)
+unfoldable pub routeCall : List ℕ → ℕ → List ℕ → ℕ → ℕ → List ℕ → Report
+routeCall view memory device a w result = cond (routeFits view device result) (routeResult (routeBy view memory device a w)) (lengthRefused result)
 
 -- many accesses at once, two words each, with four words for each answer
 unfoldable pub routeAllCall : List ℕ → ℕ → List ℕ → List ℕ → List ℕ → RoutedAll
@@ -41,5 +39,5 @@ routeAllCall view memory device accesses answers =
     (allWith (viewOf view) memory (deviceOf device) accesses answers)
 
 -- what the list gives an address, told as what the walk gives
-unfoldable pub lookUpCall : List ℕ → ℕ → ℕ → List ℕ → Told
-lookUpCall view memory a result = cond (isView view && isResult result) (ledTo (lookedUp (viewOf view) memory a)) (untold result)
+unfoldable pub lookUpCall : List ℕ → ℕ → ℕ → List ℕ → Report
+lookUpCall view memory a result = cond (isView view && isResult result) (walkResult (lookedUp (viewOf view) memory a)) (lengthRefused result)

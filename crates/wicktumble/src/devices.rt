@@ -2,21 +2,28 @@
 ghost use mathlib.Core.Path.{_≡_};
 ghost use lib.ListN.{length};
 ghost use Rattle.memory_device.specs.Host.{byteOf};
-ghost use Rattle.memory_device.specs.Lent.{leaves};
+ghost use Rattle.memory_device.specs.Lent.{wordsLeft};
 ghost use Rattle.memory_device.specs.Record.{recordOf};
 ghost use Rattle.memory_device.specs.SetUp.{setUpReply};
-ghost use Rattle.wicktumble.specs.Result.{Tells};
-ghost use Rattle.wicktumble.specs.Contracts.{toldBy, SaysReply};
-ghost use Rattle.wicktumble.specs.Maps.{Makes};
-ghost use Rattle.wicktumble.specs.Devices.{valuesOf, setUpCall, Changes, resizeCall, pinCall, unpinCall, resetCall};
-ghost use Rattle.wicktumble.specs.Devices.{configurationCall, Answers, requestCall, inBlock, blockCall};
+ghost use Rattle.wicktumble.specs.Result.{Returns};
+ghost use Rattle.wicktumble.specs.Contracts.{saidReport, SaysReply};
+ghost use Rattle.wicktumble.specs.Maps.{ReturnsRecord};
+ghost use Rattle.wicktumble.specs.Devices.{valuesOf, setUpCall, ReturnsWords, resizeCall, pinCall, unpinCall, resetCall};
+ghost use Rattle.wicktumble.specs.Devices.{configurationCall, ReturnsRequest, requestCall, inBlock, blockCall};
+ghost use Rattle.device_words.specs.Words.{deviceLength};
+ghost use Rattle.device_words.specs.Bytes.{requestLength};
+use crate::result::RESULT_WORDS;
 use crate::result::Said;
 use crate::result::say;
 use crate::result::say_map;
 use crate::result::tell;
+use device_words::bytes::REQUEST_BYTES;
 use device_words::bytes::copy_bytes;
+use device_words::words::DEVICE_WORDS;
 use map_records::map::GuestAddress;
 use map_records::map::RegionOffset;
+use map_records::refusal;
+use map_records::words::MAP_WORDS;
 use map_records::words::copy_words;
 use memory_device::device;
 use memory_device::device::MemoryDevice;
@@ -40,8 +47,8 @@ fn say_set_up(answer: SetUpAnswer) -> Said
 
 // The fresh device into its words, or nothing on a refusal.
 fn put_fresh(device: &mut [u64], answer: SetUpAnswer, fresh: MemoryDevice)
-    requires { ⌜ length (now device) ≡ 37 ⌝ }
-    ensures { λ _. ⌜ now (device .exit) ≡ leaves (setUpReply answer) (recordOf fresh) (now (device .entry)) ⌝ }
+    requires { ⌜ length (now device) ≡ deviceLength ⌝ }
+    ensures { λ _. ⌜ now (device .exit) ≡ wordsLeft (setUpReply answer) (recordOf fresh) (now (device .entry)) ⌝ }
 {
     if setup::number_of(answer) == 0 {
         let words = words_of(fresh);
@@ -60,11 +67,13 @@ pub extern "C" fn wt_set_up(
     device: &mut [u64],
     result: &mut [u64],
 ) -> u64
-    ensures { λ r. ⌜ Makes (setUpCall (now (map .entry)) «memory_length»
+    ensures { λ r. ⌜ ReturnsRecord (setUpCall (now (map .entry)) «memory_length»
         (valuesOf «block_size» addr «usable_size» «requested_size») (now (device .entry)) (now (result .entry)))
         r (now (device .exit)) (now (result .exit)) ⌝ }
 {
-    if (map.len() == 289) & ((device.len() == 37) & (result.len() == 3)) {
+    if (map.len() == MAP_WORDS)
+        & ((device.len() == DEVICE_WORDS) & (result.len() == RESULT_WORDS))
+    {
         let values = DeviceValues {
             block_size,
             addr: GuestAddress(addr),
@@ -76,83 +85,83 @@ pub extern "C" fn wt_set_up(
         put_fresh(device, answer, set.device);
         return tell(result, say_set_up(answer));
     }
-    27
+    refusal::RECORD
 }
 
 #[no_mangle]
 pub extern "C" fn wt_set_requested_size(device: &mut [u64], size: u64) -> u64
-    ensures { λ r. ⌜ Changes (resizeCall (now (device .entry)) size) r (now (device .exit)) ⌝ }
+    ensures { λ r. ⌜ ReturnsWords (resizeCall (now (device .entry)) size) r (now (device .exit)) ⌝ }
 {
     device::number_of(lent::set_requested_size(device, size))
 }
 
 #[no_mangle]
 pub extern "C" fn wt_pin(device: &mut [u64], block: u64) -> u64
-    ensures { λ r. ⌜ Changes (pinCall (now (device .entry)) block) r (now (device .exit)) ⌝ }
+    ensures { λ r. ⌜ ReturnsWords (pinCall (now (device .entry)) block) r (now (device .exit)) ⌝ }
 {
     device::number_of(lent::pin(device, block))
 }
 
 #[no_mangle]
 pub extern "C" fn wt_unpin(device: &mut [u64], block: u64) -> u64
-    ensures { λ r. ⌜ Changes (unpinCall (now (device .entry)) block) r (now (device .exit)) ⌝ }
+    ensures { λ r. ⌜ ReturnsWords (unpinCall (now (device .entry)) block) r (now (device .exit)) ⌝ }
 {
     device::number_of(lent::unpin(device, block))
 }
 
 #[no_mangle]
 pub extern "C" fn wt_system_reset(device: &mut [u64]) -> u64
-    ensures { λ r. ⌜ Changes (resetCall (now (device .entry))) r (now (device .exit)) ⌝ }
+    ensures { λ r. ⌜ ReturnsWords (resetCall (now (device .entry))) r (now (device .exit)) ⌝ }
 {
     device::number_of(lent::system_reset(device))
 }
 
 #[no_mangle]
 pub extern "C" fn wt_configuration(device: &[u64], bytes: &mut [u8]) -> u64
-    ensures { λ r. ⌜ Changes (configurationCall (now (device .entry)) (now (bytes .entry))) r (now (bytes .exit)) ⌝ }
+    ensures { λ r. ⌜ ReturnsWords (configurationCall (now (device .entry)) (now (bytes .entry))) r (now (bytes .exit)) ⌝ }
 {
     device::number_of(lent::configuration(device, bytes))
 }
 
 // The 24 bytes of a request.
-fn request_of(bytes: &[u8]) -> [u8; 24]
-    requires { ⌜ length (now bytes) ≡ 24 ⌝ }
+fn request_bytes(bytes: &[u8]) -> [u8; REQUEST_BYTES]
+    requires { ⌜ length (now bytes) ≡ requestLength ⌝ }
     ensures { λ r. ⌜ r ≡ now (bytes .entry) ⌝ }
 {
-    let mut out = [0u8; 24];
+    let mut out = [0u8; REQUEST_BYTES];
     copy_bytes(&mut out, bytes);
     out
 }
 
 #[no_mangle]
 pub extern "C" fn wt_request(device: &mut [u64], request: &[u8], response: &mut [u8]) -> u64
-    ensures { λ r. ⌜ Answers (requestCall (now (device .entry)) (now (request .entry)) (now (response .entry)))
+    ensures { λ r. ⌜ ReturnsRequest (requestCall (now (device .entry)) (now (request .entry)) (now (response .entry)))
         r (now (device .exit)) (now (response .exit)) ⌝ }
 {
-    if request.len() == 24 {
-        let bytes = request_of(request);
+    if request.len() == REQUEST_BYTES {
+        let bytes = request_bytes(request);
         return device::number_of(lent::carry_out(device, bytes, response));
     }
-    27
+    refusal::RECORD
 }
 
 fn say_block(found: ByteBlock) -> Said
-    ensures { λ r. ⌜ toldBy r ≡ inBlock (byteOf found) ⌝ }
+    ensures { λ r. ⌜ saidReport r ≡ inBlock (byteOf found) ⌝ }
 {
     match found {
         ByteBlock::At(block) => say(0, 1, block.0 as u64, 0),
         ByteBlock::Outside => say(0, 0, 0, 0),
-        ByteBlock::Record => say(27, 0, 0, 0),
+        ByteBlock::Record => say(refusal::RECORD, 0, 0, 0),
     }
 }
 
 #[no_mangle]
 pub extern "C" fn wt_block_of_byte(device: &[u64], offset: u64, result: &mut [u64]) -> u64
-    ensures { λ r. ⌜ Tells (blockCall (now (device .entry)) offset (now (result .entry))) r (now (result .exit)) ⌝ }
+    ensures { λ r. ⌜ Returns (blockCall (now (device .entry)) offset (now (result .entry))) r (now (result .exit)) ⌝ }
 {
-    if (device.len() == 37) & (result.len() == 3) {
+    if (device.len() == DEVICE_WORDS) & (result.len() == RESULT_WORDS) {
         let found = lent::block_of_byte(device, RegionOffset(offset));
         return tell(result, say_block(found));
     }
-    27
+    refusal::RECORD
 }

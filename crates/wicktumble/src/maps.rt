@@ -3,15 +3,19 @@ ghost use mathlib.Core.Path.{_≡_};
 ghost use Rattle.region_map.specs.Flatten.{flatReply};
 ghost use Rattle.region_map.specs.Resolve.{ledBy};
 ghost use Rattle.sheet.specs.Answer.{sheetReply};
-ghost use Rattle.wicktumble.specs.Result.{Tells};
-ghost use Rattle.wicktumble.specs.Contracts.{toldBy, SaysReply};
-ghost use Rattle.wicktumble.specs.Maps.{Makes, readCall, checkCall, ledTo, walkCall, flattenCall};
+ghost use Rattle.wicktumble.specs.Result.{Returns};
+ghost use Rattle.wicktumble.specs.Contracts.{saidReport, SaysReply};
+ghost use Rattle.wicktumble.specs.Maps.{ReturnsRecord, readCall, checkCall, walkResult, walkCall, flattenCall};
+use crate::result::RESULT_WORDS;
 use crate::result::Said;
 use crate::result::say;
 use crate::result::say_map;
 use crate::result::tell;
 use map_check::check::check_map;
 use map_records::map::GuestAddress;
+use map_records::refusal;
+use map_records::words::MAP_WORDS;
+use map_records::words::VIEW_WORDS;
 use region_map::resolve::Resolution;
 use region_map::resolve::Resolved;
 use region_map::resolve::resolve_address;
@@ -44,28 +48,28 @@ pub extern "C" fn wt_read_sheet(
     map: &mut [u64],
     result: &mut [u64],
 ) -> u64
-    ensures { λ r. ⌜ Makes (readCall (now (sheet .entry)) «memory_length» (now (map .entry)) (now (result .entry)))
+    ensures { λ r. ⌜ ReturnsRecord (readCall (now (sheet .entry)) «memory_length» (now (map .entry)) (now (result .entry)))
         r (now (map .exit)) (now (result .exit)) ⌝ }
 {
-    if (map.len() == 289) & (result.len() == 3) {
+    if (map.len() == MAP_WORDS) & (result.len() == RESULT_WORDS) {
         let said = say_sheet(read_sheet(sheet, memory_length, map));
         return tell(result, said);
     }
-    27
+    refusal::RECORD
 }
 
 #[no_mangle]
 pub extern "C" fn wt_check_map(map: &[u64], memory_length: u64, result: &mut [u64]) -> u64
-    ensures { λ r. ⌜ Tells (checkCall (now (map .entry)) «memory_length» (now (result .entry))) r (now (result .exit)) ⌝ }
+    ensures { λ r. ⌜ Returns (checkCall (now (map .entry)) «memory_length» (now (result .entry))) r (now (result .exit)) ⌝ }
 {
-    if (map.len() == 289) & (result.len() == 3) {
+    if (map.len() == MAP_WORDS) & (result.len() == RESULT_WORDS) {
         return tell(result, say_map(check_map(map, memory_length)));
     }
-    27
+    refusal::RECORD
 }
 
 fn say_walk(led: Resolution) -> Said
-    ensures { λ r. ⌜ toldBy r ≡ ledTo (ledBy led) ⌝ }
+    ensures { λ r. ⌜ saidReport r ≡ walkResult (ledBy led) ⌝ }
 {
     match led {
         Resolution::Refused(answer) => say_map(answer),
@@ -78,13 +82,13 @@ fn say_walk(led: Resolution) -> Said
 
 #[no_mangle]
 pub extern "C" fn wt_walk(map: &[u64], memory_length: u64, address: u64, result: &mut [u64]) -> u64
-    ensures { λ r. ⌜ Tells (walkCall (now (map .entry)) «memory_length» address (now (result .entry))) r (now (result .exit)) ⌝ }
+    ensures { λ r. ⌜ Returns (walkCall (now (map .entry)) «memory_length» address (now (result .entry))) r (now (result .exit)) ⌝ }
 {
-    if (map.len() == 289) & (result.len() == 3) {
+    if (map.len() == MAP_WORDS) & (result.len() == RESULT_WORDS) {
         let led = resolve_address(map, memory_length, GuestAddress(address));
         return tell(result, say_walk(led));
     }
-    27
+    refusal::RECORD
 }
 
 fn say_flat(answer: FlatAnswer) -> Said
@@ -105,12 +109,12 @@ pub extern "C" fn wt_flatten(
     view: &mut [u64],
     result: &mut [u64],
 ) -> u64
-    ensures { λ r. ⌜ Makes (flattenCall (now (map .entry)) «memory_length» (now (view .entry)) (now (result .entry)))
+    ensures { λ r. ⌜ ReturnsRecord (flattenCall (now (map .entry)) «memory_length» (now (view .entry)) (now (result .entry)))
         r (now (view .exit)) (now (result .exit)) ⌝ }
 {
-    if (map.len() == 289) & ((view.len() == 1537) & (result.len() == 3)) {
+    if (map.len() == MAP_WORDS) & ((view.len() == VIEW_WORDS) & (result.len() == RESULT_WORDS)) {
         let said = say_flat(flatten(map, memory_length, view));
         return tell(result, said);
     }
-    27
+    refusal::RECORD
 }

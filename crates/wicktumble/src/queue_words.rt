@@ -1,7 +1,7 @@
-// A queue's seven words, both ways.
+// A queue's words, both ways.
 ghost use mathlib.Core.Path.{_≡_};
 ghost use lib.ListN.{length};
-ghost use Rattle.wicktumble.specs.Queues.{queueFits, QueueWidths, queueOf, queueWords};
+ghost use Rattle.wicktumble.specs.Queues.{queueFits, QueueWidths, queueOf, queueWords, queueLength};
 use map_records::map::GuestAddress;
 use virtqueue::queue::SplitQueue;
 
@@ -20,17 +20,21 @@ const NEXT_USED: usize = 5;
 
 const STOP: usize = 6;
 
-const WORDS: usize = 7;
+pub const QUEUE_WORDS: usize = 7;
 
-// Are they seven, and none wider than its field?
+// The largest value of a 16-bit field.
+pub const WIDEST: u64 = 65535;
+
+// Are they as many, and none wider than its field?
 pub fn queue_fits(words: &[u64]) -> bool
     ensures { λ r. ⌜ r ≡ queueFits (now (words .entry)) ⌝ }
 {
-    if words.len() != WORDS {
+    if words.len() != QUEUE_WORDS {
         return false;
     }
-    (words[SIZE] <= 65535)
-        & ((words[NEXT_AVAILABLE] <= 65535) & ((words[NEXT_USED] <= 65535) & (words[STOP] <= 255)))
+    (words[SIZE] <= WIDEST)
+        & ((words[NEXT_AVAILABLE] <= WIDEST)
+            & ((words[NEXT_USED] <= WIDEST) & (words[STOP] <= 255)))
 }
 
 pub fn queue_of(words: &[u64]) -> SplitQueue
@@ -49,7 +53,7 @@ pub fn queue_of(words: &[u64]) -> SplitQueue
 }
 
 pub fn put_queue(words: &mut [u64], queue: SplitQueue)
-    requires { ⌜ length (now words) ≡ 7 ⌝ }
+    requires { ⌜ length (now words) ≡ queueLength ⌝ }
     ensures { λ _. ⌜ now (words .exit) ≡ queueWords queue ⌝ }
 {
     words[SIZE] = queue.size as u64;

@@ -1,20 +1,26 @@
 // The split queue: making and reset, one step, a run of steps.
 ghost use mathlib.Core.Path.{_≡_};
 ghost use lib.ListN.{length};
-ghost use Rattle.wicktumble.specs.Contracts.{toldBy};
-ghost use Rattle.wicktumble.specs.Devices.{Changes};
+ghost use Rattle.wicktumble.specs.Contracts.{saidReport};
+ghost use Rattle.wicktumble.specs.Devices.{ReturnsWords};
 ghost use Rattle.wicktumble.specs.Queues.{gives, makeCall, resetQueueCall, recordsFit, flag};
-ghost use Rattle.wicktumble.specs.Queues.{Leaves, stepTold, stepCall, runTold, runCall};
+ghost use Rattle.wicktumble.specs.Queues.{ReturnsStep, stepResult, stepCall, runResult, runCall, queueLength};
 ghost use Rattle.virtqueue.specs.Queue.{givenBy};
 ghost use Rattle.virtqueue.specs.Does.{answerOf};
-ghost use Rattle.virtqueue.specs.Run.{endOf};
+ghost use Rattle.virtqueue.specs.Run.{runEndOf};
+use crate::queue_words::QUEUE_WORDS;
+use crate::queue_words::WIDEST;
 use crate::queue_words::put_queue;
 use crate::queue_words::queue_fits;
 use crate::queue_words::queue_of;
+use crate::result::RESULT_WORDS;
 use crate::result::Said;
 use crate::result::say;
 use crate::result::tell;
+use device_words::words::DEVICE_WORDS;
 use map_records::map::GuestAddress;
+use map_records::refusal;
+use map_records::words::VIEW_WORDS;
 use virtqueue::in_place::step_in_place;
 use virtqueue::queue;
 use virtqueue::queue::QueueGiven;
@@ -25,8 +31,8 @@ use virtqueue::step::StepOutcome;
 
 // A queue that was made or reset into its words, or nothing on a refusal; gives the number.
 fn put_given(queue: &mut [u64], given: QueueGiven) -> u64
-    requires { ⌜ length (now queue) ≡ 7 ⌝ }
-    ensures { λ r. ⌜ Changes (gives (givenBy given) (now (queue .entry))) r (now (queue .exit)) ⌝ }
+    requires { ⌜ length (now queue) ≡ queueLength ⌝ }
+    ensures { λ r. ⌜ ReturnsWords (gives (givenBy given) (now (queue .entry))) r (now (queue .exit)) ⌝ }
 {
     let answer = given.answer;
     let number = queue::number_of(answer);
@@ -45,12 +51,12 @@ pub extern "C" fn wt_make_queue(
     used: u64,
     queue: &mut [u64],
 ) -> u64
-    ensures { λ r. ⌜ Changes (makeCall size descriptors available used (now (queue .entry))) r (now (queue .exit)) ⌝ }
+    ensures { λ r. ⌜ ReturnsWords (makeCall size descriptors available used (now (queue .entry))) r (now (queue .exit)) ⌝ }
 {
-    if queue.len() == 7 {
+    if queue.len() == QUEUE_WORDS {
         // Past 16 bits it is no power of two from 1 to 256.
-        if 65535 < size {
-            return 16;
+        if WIDEST < size {
+            return refusal::QUEUE;
         }
         let made = make_queue(
             size as u16,
@@ -60,25 +66,26 @@ pub extern "C" fn wt_make_queue(
         );
         return put_given(queue, made);
     }
-    27
+    refusal::RECORD
 }
 
 #[no_mangle]
 pub extern "C" fn wt_reset_queue(queue: &mut [u64]) -> u64
-    ensures { λ r. ⌜ Changes (resetQueueCall (now (queue .entry))) r (now (queue .exit)) ⌝ }
+    ensures { λ r. ⌜ ReturnsWords (resetQueueCall (now (queue .entry))) r (now (queue .exit)) ⌝ }
 {
     if queue_fits(queue) {
         let given = queue_of(queue).reset();
         return put_given(queue, given);
     }
-    27
+    refusal::RECORD
 }
 
 // Are the records of the lengths and widths that the header says?
 fn records_fit(view: &[u64], device: &[u64], queue: &[u64], result: &[u64]) -> bool
     ensures { λ r. ⌜ r ≡ recordsFit (now (view .entry)) (now (device .entry)) (now (queue .entry)) (now (result .entry)) ⌝ }
 {
-    (view.len() == 1537) & ((device.len() == 37) & (queue_fits(queue) & (result.len() == 3)))
+    (view.len() == VIEW_WORDS)
+        & ((device.len() == DEVICE_WORDS) & (queue_fits(queue) & (result.len() == RESULT_WORDS)))
 }
 
 fn flag(b: bool) -> u64
@@ -88,7 +95,7 @@ fn flag(b: bool) -> u64
 }
 
 fn say_step(outcome: StepOutcome) -> Said
-    ensures { λ r. ⌜ toldBy r ≡ stepTold (answerOf outcome) ⌝ }
+    ensures { λ r. ⌜ saidReport r ≡ stepResult (answerOf outcome) ⌝ }
 {
     match outcome {
         StepOutcome::Refused(n) => say(n as u64, 0, 0, 0),
@@ -105,7 +112,7 @@ pub extern "C" fn wt_step(
     memory: &mut [u8],
     result: &mut [u64],
 ) -> u64
-    ensures { λ r. ⌜ Leaves (stepCall (now (view .entry)) (now (device .entry)) (now (queue .entry)) (now (memory .entry))
+    ensures { λ r. ⌜ ReturnsStep (stepCall (now (view .entry)) (now (device .entry)) (now (queue .entry)) (now (memory .entry))
         (now (result .entry))) r (now (device .exit)) (now (queue .exit)) (now (memory .exit)) (now (result .exit)) ⌝ }
 {
     if records_fit(view, device, queue, result) {
@@ -115,11 +122,11 @@ pub extern "C" fn wt_step(
         put_queue(queue, next);
         return tell(result, say_step(outcome));
     }
-    27
+    refusal::RECORD
 }
 
 fn say_run(served: u64, notified: bool, end: RunEnd) -> Said
-    ensures { λ r. ⌜ toldBy r ≡ runTold served notified (endOf end) ⌝ }
+    ensures { λ r. ⌜ saidReport r ≡ runResult served notified (runEndOf end) ⌝ }
 {
     let notify = flag(notified);
     match end {
@@ -138,7 +145,7 @@ pub extern "C" fn wt_run(
     k: u64,
     result: &mut [u64],
 ) -> u64
-    ensures { λ r. ⌜ Leaves (runCall (now (view .entry)) (now (device .entry)) (now (queue .entry)) (now (memory .entry)) k
+    ensures { λ r. ⌜ ReturnsStep (runCall (now (view .entry)) (now (device .entry)) (now (queue .entry)) (now (memory .entry)) k
         (now (result .entry))) r (now (device .exit)) (now (queue .exit)) (now (memory .exit)) (now (result .exit)) ⌝ }
 {
     if records_fit(view, device, queue, result) {
@@ -148,5 +155,5 @@ pub extern "C" fn wt_run(
         put_queue(queue, next);
         return tell(result, say_run(ran.served, ran.notified, end));
     }
-    27
+    refusal::RECORD
 }

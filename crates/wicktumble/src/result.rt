@@ -2,10 +2,13 @@
 ghost use mathlib.Core.Path.{_≡_};
 ghost use lib.ListN.{length};
 ghost use Rattle.map_check.specs.Check.{reply};
-ghost use Rattle.wicktumble.specs.Result.{Tells};
-ghost use Rattle.wicktumble.specs.Contracts.{toldBy, Says, SaysReply};
+ghost use Rattle.wicktumble.specs.Result.{Returns, resultLength};
+ghost use Rattle.wicktumble.specs.Contracts.{saidReport, Says, SaysReply};
 use map_check::check;
 use map_check::check::MapAnswer;
+
+// The words of a result.
+pub const RESULT_WORDS: usize = 3;
 
 pub struct Said {
     pub number: u64,
@@ -27,8 +30,8 @@ pub fn say(number: u64, first: u64, second: u64, third: u64) -> Said
 
 // The three words into the result; gives the number.
 pub fn tell(result: &mut [u64], said: Said) -> u64
-    requires { ⌜ length (now result) ≡ 3 ⌝ }
-    ensures { λ r. ⌜ Tells (toldBy said) r (now (result .exit)) ⌝ }
+    requires { ⌜ length (now result) ≡ resultLength ⌝ }
+    ensures { λ r. ⌜ Returns (saidReport said) r (now (result .exit)) ⌝ }
 {
     result[0] = said.first;
     result[1] = said.second;

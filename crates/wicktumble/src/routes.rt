@@ -1,25 +1,29 @@
 // Routing of accesses, and what a view gives an address.
 ghost use mathlib.Core.Path.{_≡_};
-ghost use Rattle.wicktumble.specs.Result.{Tells};
-ghost use Rattle.wicktumble.specs.Contracts.{toldBy};
+ghost use Rattle.wicktumble.specs.Result.{Returns};
+ghost use Rattle.wicktumble.specs.Contracts.{saidReport};
 ghost use Rattle.routing.specs.Look.{lookedBy};
 ghost use Rattle.routing.specs.Route.{routedBy, RoutesAll};
-ghost use Rattle.wicktumble.specs.Maps.{ledTo};
-ghost use Rattle.wicktumble.specs.Routes.{routeTold, routeBy, routeCall, routeAllCall, lookUpCall};
+ghost use Rattle.wicktumble.specs.Maps.{walkResult};
+ghost use Rattle.wicktumble.specs.Routes.{routeResult, routeBy, routeCall, routeAllCall, lookUpCall};
+use crate::result::RESULT_WORDS;
 use crate::result::Said;
 use crate::result::say;
 use crate::result::tell;
+use device_words::words::DEVICE_WORDS;
 use map_records::map::GuestAddress;
+use map_records::refusal;
+use map_records::words::VIEW_WORDS;
 use routing::route;
 use routing::route::RouteAnswer;
 use routing::view::LookUp;
 use routing::view::look_up;
 
 fn say_route(answer: RouteAnswer) -> Said
-    ensures { λ r. ⌜ toldBy r ≡ routeTold (routedBy answer) ⌝ }
+    ensures { λ r. ⌜ saidReport r ≡ routeResult (routedBy answer) ⌝ }
 {
     match answer {
-        RouteAnswer::Refused(n) => say(n as u64, 0, 0, 0),
+        RouteAnswer::Refused(n) => say(n, 0, 0, 0),
         RouteAnswer::Memory(place) => say(0, 1, place, 0),
         RouteAnswer::Port(port, offset) => say(0, 2, port, offset.0),
     }
@@ -51,15 +55,15 @@ pub extern "C" fn wt_route(
     width: u64,
     result: &mut [u64],
 ) -> u64
-    ensures { λ r. ⌜ Tells (routeCall (now (view .entry)) «memory_length» (now (device .entry)) address width (now (result .entry)))
+    ensures { λ r. ⌜ Returns (routeCall (now (view .entry)) «memory_length» (now (device .entry)) address width (now (result .entry)))
         r (now (result .exit)) ⌝ }
 {
-    let known = (device.len() == 0) | (device.len() == 37);
-    if (view.len() == 1537) & (known & (result.len() == 3)) {
+    let known = (device.len() == 0) | (device.len() == DEVICE_WORDS);
+    if (view.len() == VIEW_WORDS) & (known & (result.len() == RESULT_WORDS)) {
         let answer = route_by(view, memory_length, device, address, width);
         return tell(result, say_route(answer));
     }
-    27
+    refusal::RECORD
 }
 
 #[no_mangle]
@@ -81,12 +85,12 @@ pub extern "C" fn wt_route_all(
 }
 
 fn say_look_up(found: LookUp) -> Said
-    ensures { λ r. ⌜ toldBy r ≡ ledTo (lookedBy found) ⌝ }
+    ensures { λ r. ⌜ saidReport r ≡ walkResult (lookedBy found) ⌝ }
 {
     match found {
         LookUp::At(region, offset) => say(0, 1, region as u64, offset.0),
         LookUp::Nothing => say(0, 0, 0, 0),
-        LookUp::Record => say(27, 0, 0, 0),
+        LookUp::Record => say(refusal::RECORD, 0, 0, 0),
     }
 }
 
@@ -97,11 +101,11 @@ pub extern "C" fn wt_look_up(
     address: u64,
     result: &mut [u64],
 ) -> u64
-    ensures { λ r. ⌜ Tells (lookUpCall (now (view .entry)) «memory_length» address (now (result .entry))) r (now (result .exit)) ⌝ }
+    ensures { λ r. ⌜ Returns (lookUpCall (now (view .entry)) «memory_length» address (now (result .entry))) r (now (result .exit)) ⌝ }
 {
-    if (view.len() == 1537) & (result.len() == 3) {
+    if (view.len() == VIEW_WORDS) & (result.len() == RESULT_WORDS) {
         let found = look_up(view, memory_length, GuestAddress(address));
         return tell(result, say_look_up(found));
     }
-    27
+    refusal::RECORD
 }

@@ -20,10 +20,20 @@ sub-if2 : tie.Need-sub-if2
 sub-if2 c = some (c .before .if1 .left)
 
 places-from-requires : tie.Need-places-from-requires
-places-from-requires c κs = runs-room (viewOf (c .before .before .before .before .before .before .before .args .view .now)) (c .before .before .before .before .before .before .before .args .addr .0) (c .before .before .before .stretch-at .result .place) (c .before .before .before .stretch-at .result .left) (length (c .before .before .before .before .before .before .before .args .out .now)) (c .before .before .before .stretch-at .ensures) (some (c .before .before .before .before .if1 .left)) (c .before .if2 .taken) (2 ^ 64) (c .before .before .before .before .before .before .before .pre .1) (ordered-room (viewOf (c .before .before .before .before .before .before .before .args .view .now)) (c .before .before .before .before .before .before .before .pre .0 .ordered))
+places-from-requires c κs =
+    let s = c .before .before .before .before .before .before .before in
+    let found = c .before .before .before .stretch-at in
+    let view = viewOf (s .args .view .now) in
+    runs-room view (s .args .addr .0) (found .result .place) (found .result .left) (length (s .args .out .now)) (found .ensures) (some (c .before .before .before .before .if1 .left)) (c .before .if2 .taken)
+    (2 ^ 64) (s .pre .1) (ordered-room view (s .pre .0 .ordered))
 
 returns-2 : tie.Need-returns-2
-returns-2 c = c .before .before .places-from .ensures ∙ runs-places (viewOf (c .before .before .before .before .before .before .before .before .before .before .args .view .now)) (c .before .before .before .before .before .before .before .before .before .before .args .addr .0) (c .before .before .before .before .before .before .stretch-at .result .place) (c .before .before .before .before .before .before .stretch-at .result .left) (length (c .before .before .before .before .before .before .before .before .before .before .args .out .now)) (c .before .before .before .before .before .before .stretch-at .ensures) (some (c .before .before .before .before .before .before .before .if1 .left)) (c .before .before .before .before .if2 .taken)
+returns-2 c =
+    let s = c .before .before .before .before .before .before .before .before .before .before in
+    let found = c .before .before .before .before .before .before .stretch-at in
+    c .before .before .places-from .ensures
+    ∙ runs-places (viewOf (s .args .view .now)) (s .args .addr .0) (found .result .place) (found .result .left) (length (s .args .out .now)) (found .ensures)
+    (some (c .before .before .before .before .before .before .before .if1 .left)) (c .before .before .before .before .if2 .taken)
 
 places-apart-requires : tie.Need-places-apart-requires
 places-apart-requires c κs = c .before .before .before .before .before .before .before .pre

@@ -35,7 +35,11 @@ mul-value : tie.Need-mul-value Inv-loop μ-loop
 mul-value c = omega (arith, reading-fits _ _ _ _ _ (c .before .before .before .loop .inv) (c .before .before .loop-test .taken) (c .before .before .before .before .before .before .pre .1 .1 .1))
 
 shared-slice-read-wide : tie.Need-shared-slice-read-wide Inv-loop μ-loop
-shared-slice-read-wide c = byte-place (viewOf (c .before .before .before .before .before .before .before .args .view .now)) (c .before .before .before .before .before .before .before .args .addr .0) (c .before .before .before .before .before .before .before .args .bytes) (c .before .before .before .before .loop .i - 1) (c .before .before .before .before .before .before .before .pre .1 .1 .0) (omega (arith, c .before .before .before .before .loop .inv .most, c .before .before .before .loop-test .taken)) (length (c .before .before .before .before .before .before .before .args .mem .now)) (c .before .stretch-at .result .place) (c .before .before .before .before .before .before .before .pre .1 .0) (runs-first _ _ _ _ (c .before .stretch-at .ensures))
+shared-slice-read-wide c =
+    let s = c .before .before .before .before .before .before .before in
+    let l = c .before .before .before .before .loop in
+    byte-place (viewOf (s .args .view .now)) (s .args .addr .0) (s .args .bytes) (l .i - 1) (s .pre .1 .1 .0) (omega (arith, l .inv .most, c .before .before .before .loop-test .taken))
+    (length (s .args .mem .now)) (c .before .stretch-at .result .place) (s .pre .1 .0) (runs-first _ _ _ _ (c .before .stretch-at .ensures))
 
 add-value-2 : tie.Need-add-value-2 Inv-loop μ-loop
 add-value-2 c = omega (arith, c .wide .ensures .1, reading-fits _ _ _ _ _ (c .before .before .before .before .before .loop .inv) (c .before .before .before .before .loop-test .taken) (c .before .before .before .before .before .before .before .before .pre .1 .1 .1))

@@ -19,10 +19,19 @@ sub-if2 : tie.Need-sub-if2
 sub-if2 c = some (c .before .if1 .left)
 
 bytes-from-requires : tie.Need-bytes-from-requires
-bytes-from-requires c κs = runs-room (viewOf (c .before .before .before .before .before .before .before .before .args .view .now)) (c .before .before .before .before .before .before .before .before .args .addr .0) (c .before .before .before .stretch-at .result .place) (c .before .before .before .stretch-at .result .left) (length (c .before .before .before .before .before .before .before .before .args .out .now)) (c .before .before .before .stretch-at .ensures) (some (c .before .before .before .before .if1 .left)) (c .before .if2 .taken) (length (c .before .before .before .before .before .before .before .before .args .mem .now)) (c .before .before .before .before .before .before .before .before .pre .1 .1) (c .before .before .before .before .before .before .before .before .pre .1 .0)
+bytes-from-requires c κs =
+    let s = c .before .before .before .before .before .before .before .before in
+    let found = c .before .before .before .stretch-at in
+    runs-room (viewOf (s .args .view .now)) (s .args .addr .0) (found .result .place) (found .result .left) (length (s .args .out .now)) (found .ensures)
+    (some (c .before .before .before .before .if1 .left)) (c .before .if2 .taken) (length (s .args .mem .now)) (s .pre .1 .1) (s .pre .1 .0)
 
 returns-2 : tie.Need-returns-2
-returns-2 c = c .before .before .bytes-from .ensures ∙ runs-bytes (viewOf (c .before .before .before .before .before .before .before .before .before .before .before .args .view .now)) (c .before .before .before .before .before .before .before .before .before .before .before .args .addr .0) (c .before .before .before .before .before .before .stretch-at .result .place) (c .before .before .before .before .before .before .stretch-at .result .left) (length (c .before .before .before .before .before .before .before .before .before .before .before .args .out .now)) (c .before .before .before .before .before .before .stretch-at .ensures) (some (c .before .before .before .before .before .before .before .if1 .left)) (c .before .before .before .before .if2 .taken) (c .before .before .before .before .before .before .before .before .before .before .before .args .mem .now)
+returns-2 c =
+    let s = c .before .before .before .before .before .before .before .before .before .before .before in
+    let found = c .before .before .before .before .before .before .stretch-at in
+    c .before .before .bytes-from .ensures
+    ∙ runs-bytes (viewOf (s .args .view .now)) (s .args .addr .0) (found .result .place) (found .result .left) (length (s .args .out .now)) (found .ensures)
+    (some (c .before .before .before .before .before .before .before .if1 .left)) (c .before .before .before .before .if2 .taken) (s .args .mem .now)
 
 bytes-apart-requires : tie.Need-bytes-apart-requires
 bytes-apart-requires c κs = c .before .before .before .before .before .before .before .before .pre

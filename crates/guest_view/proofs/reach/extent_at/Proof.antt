@@ -37,7 +37,13 @@ how-far-requires : tie.Need-how-far-requires
 how-far-requires c κs = (c .before .before .before .before .before .before .before .before .before .pre .1, omega (arith, c .before .before .offset-in .ensures, read-end (c .before .before .before .before .before .before .before .before .before .pre .0) (c .before .before .before .before .before .before .near .ensures) (found (c .before .before .before .before)) (c .before .before .before .range-at .ensures)))
 
 returns-2 : tie.Need-returns-2
-returns-2 c = reaches-on (viewOf (c .before .before .before .before .before .before .before .before .before .before .args .view .now)) (pluggedIn (c .before .before .before .before .before .before .before .before .before .before .args .block) (c .before .before .before .before .before .before .before .before .before .before .args .plugged .now)) (c .before .before .before .before .before .before .before .before .before .before .args .a .0) (c .before .before .before .before .before .before .before .near .result) (c .before .before .before .before .before .before .before .near .ensures) (found (c .before .before .before .before .before)) (words-full (c .before .before .before .before .before .before .before .before .before .before .pre .0)) (c .before .before .before .before .before .before .before .before .before .before .pre .0 .ordered) (c .before .before .before .before .range-at .result) (c .before .before .before .before .range-at .ensures) (c .before .before .before .offset-in .result .0) (c .before .before .before .offset-in .ensures) (c .how-far .result) (c .how-far .ensures)
+returns-2 c =
+    let s = c .before .before .before .before .before .before .before .before .before .before in
+    let near = c .before .before .before .before .before .before .before .near in
+    let range = c .before .before .before .before .range-at in
+    let offset = c .before .before .before .offset-in in
+    reaches-on (viewOf (s .args .view .now)) (pluggedIn (s .args .block) (s .args .plugged .now)) (s .args .a .0) (near .result) (near .ensures) (found (c .before .before .before .before .before)) (words-full (s .pre .0)) (s .pre .0 .ordered)
+    (range .result) (range .ensures) (offset .result .0) (offset .ensures) (c .how-far .result) (c .how-far .ensures)
 
 pub extent-at-spec : {M : Type 1} → statement M
 extent-at-spec = tie.close (tie.spec near-requires count-of-requires returns range-at-requires offset-in-requires sub-how-far how-far-requires returns-2)

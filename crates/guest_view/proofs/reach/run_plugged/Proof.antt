@@ -23,7 +23,11 @@ block-of-requires-2 c κs = (c .before .before .before .before .before .pre .0 .
 
 -- the first block is not behind the last
 ordered : (c : tie.After-struct-known4) → c .before .before .before .block-of .result .0 ≤ c .before .before .block-of2 .result .0
-ordered c = run-order (c .before .before .before .before .before .before .before .before .args .block) (c .before .before .before .before .before .before .before .before .args .plugged .now) (c .before .before .before .before .before .before .before .before .args .offset .0) (c .before .before .before .before .before .before .before .before .args .more) (c .before .before .before .before .before .before .before .before .pre .0 .0) (c .before .before .before .block-of .result .0) (c .before .before .block-of2 .result .0) (c .before .before .before .block-of .ensures) (c .before .before .block-of2 .ensures)
+ordered c =
+    let s = c .before .before .before .before .before .before .before .before in
+    let first = c .before .before .before .block-of in
+    let last = c .before .before .block-of2 in
+    run-order (s .args .block) (s .args .plugged .now) (s .args .offset .0) (s .args .more) (s .pre .0 .0) (first .result .0) (last .result .0) (first .ensures) (last .ensures)
 
 sub-count : tie.Need-sub-count
 sub-count c = ordered c
@@ -35,7 +39,12 @@ all-set-requires : tie.Need-all-set-requires
 all-set-requires c κs = (c .before .before .before .before .before .before .before .before .before .pre .0 .1, omega (arith, c .before .before .before .block-of2 .ensures, c .before .before .before .before .before .if1 .taken, ordered (c .before)))
 
 returns : tie.Need-returns
-returns c = λ r. run-true (c .before .before .before .before .before .before .before .before .before .before .args .block) (c .before .before .before .before .before .before .before .before .before .before .args .plugged .now) (c .before .before .before .before .before .before .before .before .before .before .args .offset .0) (c .before .before .before .before .before .before .before .before .before .before .args .more) (c .before .before .before .before .before .before .before .before .before .before .pre .0 .0) (c .before .before .before .before .before .block-of .result .0) (c .before .before .before .before .block-of2 .result .0) (c .before .before .before .before .before .block-of .ensures) (c .before .before .before .before .block-of2 .ensures) (sym (c .all-set .ensures) ∙ r)
+returns c =
+    let s = c .before .before .before .before .before .before .before .before .before .before in
+    let first = c .before .before .before .before .before .block-of in
+    let last = c .before .before .before .before .block-of2 in
+    λ r. run-true (s .args .block) (s .args .plugged .now) (s .args .offset .0) (s .args .more) (s .pre .0 .0) (first .result .0) (last .result .0) (first .ensures) (last .ensures)
+    (sym (c .all-set .ensures) ∙ r)
 
 returns-2 : tie.Need-returns-2
 returns-2 c = λ r e h. absurd (never (sym r))

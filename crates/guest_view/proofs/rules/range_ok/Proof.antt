@@ -34,7 +34,7 @@ returns-5 : tie.Need-returns-5
 unfolding rangeOk
 returns-5 c =
     let h : lastOffset (c .before .before .before .before .before .before .before .before .before .before .before .args .range) < 281474976710656 = omega (arith, c .before .before .if4 .left, c .before .before .before .before .offset-in .ensures) in
-    simp (le-leb _ _ (c .before .before .before .before .before .before .before .before .before .if1 .left), lt-ltb _ _ (c .before .before .before .before .before .before .before .if2 .left), lt-ltb _ _ h, lt-leb _ _ (c .if5 .taken))
+    simp (le-leb _ _ (c .before .before .before .before .before .before .before .before .before .if1 .left), lt-ltb _ _ (c .before .before .before .before .before .before .before .if2 .left), lt-ltb _ _ h, le-ltb _ _ (c .if5 .taken))
 
 backing-ok-requires : tie.Need-backing-ok-requires
 backing-ok-requires c κs = (c .before .before .before .before .offset-in .ensures, c .before .before .if4 .left)
@@ -43,7 +43,7 @@ returns-6 : tie.Need-returns-6
 unfolding rangeOk
 returns-6 c =
     let h : lastOffset (c .before .before .before .before .before .before .before .before .before .before .before .before .args .range) < 281474976710656 = omega (arith, c .before .before .before .if4 .left, c .before .before .before .before .before .offset-in .ensures) in
-    simp (le-leb _ _ (c .before .before .before .before .before .before .before .before .before .before .if1 .left), lt-ltb _ _ (c .before .before .before .before .before .before .before .before .if2 .left), lt-ltb _ _ h, le-leb _ _ (c .before .if5 .left)) (c .backing-ok .ensures)
+    simp (le-leb _ _ (c .before .before .before .before .before .before .before .before .before .before .if1 .left), lt-ltb _ _ (c .before .before .before .before .before .before .before .before .if2 .left), lt-ltb _ _ h, lt-ltb _ _ (c .before .if5 .left)) (c .backing-ok .ensures)
 
 pub range-ok-spec : {M : Type 1} → statement M
 range-ok-spec = tie.close (tie.spec returns returns-2 returns-3 offset-in-requires returns-4 returns-5 backing-ok-requires returns-6)

@@ -67,7 +67,7 @@ good c = sym (judged (c .before)) ∙ not-false (c .before .range-ok .result) (c
 small : (c : tie.Else3 Inv-loop μ-loop) → c .before .before .range-at .result .region < 32
 small c =
     let f = range-facts (c .before .before .before .before .before .before .before .before .before .args .memory) (c .before .before .before .before .before .before .before .before .before .args .region) (rangeOf (viewOf (c .before .before .before .before .before .before .before .before .before .args .view .now)) (c .before .before .before .before .loop .k)) (good c) in
-    omega (arith, f .number, ap (λ (r : FlatRange). r .region) (c .before .before .range-at .ensures))
+    omega (arith, f .known, ap (λ (r : FlatRange). r .region) (c .before .before .range-at .ensures))
 
 mul-first : tie.Need-mul-first Inv-loop μ-loop
 mul-first c = omega (arith, small c)

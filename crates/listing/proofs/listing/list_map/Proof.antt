@@ -11,12 +11,13 @@ use Rattle.listing.proofs.TextLaws.{puts-size, fills-put}
 use borrow.Author.Needs.{needs}
 use Rattle.listing.proofs.listing.list_map.Statement.{statement}
 use Rattle.listing.proofs.listing.list_map.Tie as tie
+use Rattle.map_records.specs.Limits.{viewLength}
 
 -- what making the view gave
 told : (c : tie.After-number-of) → MadeAs (flattened (mapOf (c .before .before .before .before .before .before .args .map .now)) (c .before .before .before .before .before .before .args .memory-length)) (c .number-of .result) (c .before .before .flatten .last .1 .1 .0)
 told c =
     let f = c .before .before .flatten in
-    made-as _ _ _ _ (f .result) _ (length-replicate {A = ℕ} 1537 0) (c .before .flat2 .given) (f .ensures .0) (f .ensures .1) (c .number-of .ensures)
+    made-as _ _ _ _ (f .result) _ (length-replicate {A = ℕ} viewLength 0) (c .before .flat2 .given) (f .ensures .0) (f .ensures .1) (c .number-of .ensures)
 
 returns : tie.Need-returns
 returns c =

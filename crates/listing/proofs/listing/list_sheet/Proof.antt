@@ -9,12 +9,13 @@ use Rattle.listing.proofs.TextLaws.{sheet-refused, sheet-passed}
 use borrow.Author.Needs.{needs}
 use Rattle.listing.proofs.listing.list_sheet.Statement.{statement}
 use Rattle.listing.proofs.listing.list_sheet.Tie as tie
+use Rattle.map_records.specs.Limits.{mapLength}
 
 -- what reading the sheet gave
 told : (c : tie.After-number-of) → ReadAs (readSheet (c .before .before .before .before .before .before .args .sheet .now) (c .before .before .before .before .before .before .args .memory-length)) (c .number-of .result) (c .before .before .read-sheet .last .1 .1 .0)
 told c =
     let f = c .before .before .read-sheet in
-    read-as _ _ _ _ (f .result) _ (length-replicate {A = ℕ} 289 0) (f .ensures .0) (f .ensures .1) (c .number-of .ensures)
+    read-as _ _ _ _ (f .result) _ (length-replicate {A = ℕ} mapLength 0) (f .ensures .0) (f .ensures .1) (c .number-of .ensures)
 
 returns : tie.Need-returns
 unfolding listingText

@@ -7,4 +7,4 @@ returns : tie.Need-returns
 returns c = cc
 
 pub memory-clash-spec : {M : Type 1} → statement M
-memory-clash-spec = tie.close (tie.spec (λ c κs. search needs) returns)
+memory-clash-spec = tie.close (tie.spec (λ c κs. search needs) (λ c κs. search needs) (λ c κs. search needs) returns)

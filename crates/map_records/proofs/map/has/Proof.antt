@@ -26,7 +26,7 @@ by-tag kind Target = (λ h. absurd (omega (arith, h)), λ h. refl)
 by-tag kind AliasOffset = (λ h. absurd (omega (arith, h)), λ h. refl)
 
 returns : tie.Need-returns
-returns c = simp (c .enum-told .given .1)
+returns c = simp (c .before .enum-told .given .1, c .has-memory .ensures)
 
 returns-2 : tie.Need-returns-2
 returns-2 c = simp (c .enum-told2 .given .1)
@@ -38,4 +38,4 @@ returns-4 : tie.Need-returns-4
 returns-4 c = by-tag (c .before .args .kind) (c .before .args .field) .0 (⊎-elim (λ e. omega (arith, e)) (⊎-elim (λ e. omega (arith, e)) (⊎-elim (λ e. omega (arith, e)) (λ e. omega (arith, e)))) (c .match .keys4))
 
 pub has-spec : {M : Type 1} → statement M
-has-spec = tie.close (tie.spec (λ c. search needs) (λ c. search needs) returns returns-2 returns-3 returns-4)
+has-spec = tie.close (tie.spec (λ c. search needs) (λ c. search needs) (λ c. search needs) returns returns-2 returns-3 returns-4)

@@ -4,7 +4,7 @@ use mathlib.Core.Path.{refl, sym, _∙_}
 use borrow.Author.Tests.{not-true, not-false}
 use Rattle.device_words.specs.Device.{MemoryDevice, withPins, withPin}
 use Rattle.device_words.specs.Words.{deviceAt}
-use Rattle.memory_device.specs.Host.{pinFault, pinned}
+use Rattle.memory_device.specs.Host.{pinFault, pinBlock}
 use Rattle.memory_device.specs.declared.device.HostAnswer.the-variants.{Pin}
 use Rattle.memory_device.proofs.LentLaws.{left-27, left-fault, left-done, sound, sound-length}
 use borrow.Author.Needs.{needs}
@@ -18,17 +18,17 @@ set-pin-requires : tie.Need-set-pin-requires
 set-pin-requires c κs = (sound-length (c .before .before .before .before .before .before .before .before .args .device .now) _ (c .before .before .before .before .before .device-ok .ensures) (c .before .before .before .before .if1 .taken), c .before .before .can-pin .ensures .1 (c .before .if2 .taken))
 
 returns : tie.Need-returns
-unfolding pinned
+unfolding pinBlock
 returns c = let a = c .before .before .before .before .before .before .before .before .before .before .before .args in
     left-done (a .device .now) _ (c .before .before .before .before .before .before .before .before .device-ok .ensures) (c .before .before .before .before .before .before .before .if1 .taken) (λ (d : MemoryDevice). pinFault d (a .block)) 15 (λ (d : MemoryDevice). withPins d (withPin (d .pinned) (a .block) true)) _ (not-true (pinFault (deviceAt (a .device .now)) (a .block)) (sym (c .before .before .before .before .before .can-pin .ensures .0) ∙ c .before .before .before .before .if2 .taken)) (c .before .before .set-pin .ensures)
 
 returns-2 : tie.Need-returns-2
-unfolding pinned
+unfolding pinBlock
 returns-2 c = let a = c .before .before .before .before .before .before .before .args in
     left-fault (a .device .now) _ (c .before .before .before .before .device-ok .ensures) (c .before .before .before .if1 .taken) (λ (d : MemoryDevice). pinFault d (a .block)) 15 (λ (d : MemoryDevice). withPins d (withPin (d .pinned) (a .block) true)) Pin refl (not-false (pinFault (deviceAt (a .device .now)) (a .block)) (sym (c .before .can-pin .ensures .0) ∙ c .if2 .left))
 
 returns-3 : tie.Need-returns-3
-unfolding pinned
+unfolding pinBlock
 returns-3 c = left-27 (c .before .before .before .before .args .device .now) _ (c .before .device-ok .ensures) _ (c .if1 .left)
 
 pub pin-spec : {M : Type 1} → statement M

@@ -2,7 +2,7 @@
 use mathlib.Core.Bool.{false, not}
 use mathlib.Core.Path.{refl, sym, ap, _∙_}
 use Rattle.device_words.specs.Device.{MemoryDevice, isPinned, withPins, withPin}
-use Rattle.memory_device.specs.Host.{unpinned}
+use Rattle.memory_device.specs.Host.{unpinBlock}
 use Rattle.memory_device.specs.declared.device.HostAnswer.the-variants.{Pin}
 use Rattle.memory_device.proofs.LentLaws.{left-27, left-fault, left-done, sound-length}
 use borrow.Author.Needs.{needs}
@@ -16,17 +16,17 @@ set-pin-requires : tie.Need-set-pin-requires
 set-pin-requires c κs = (sound-length (c .before .before .before .before .before .before .before .before .args .device .now) _ (c .before .before .before .before .before .device-ok .ensures) (c .before .before .before .before .if1 .taken), c .before .before .is-pinned .ensures .1 (c .before .if2 .taken))
 
 returns : tie.Need-returns
-unfolding unpinned
+unfolding unpinBlock
 returns c = let a = c .before .before .before .before .before .before .before .before .before .before .before .args in
     left-done (a .device .now) _ (c .before .before .before .before .before .before .before .before .device-ok .ensures) (c .before .before .before .before .before .before .before .if1 .taken) (λ (d : MemoryDevice). not (isPinned d (a .block))) 15 (λ (d : MemoryDevice). withPins d (withPin (d .pinned) (a .block) false)) _ (ap not (sym (c .before .before .before .before .before .is-pinned .ensures .0) ∙ c .before .before .before .before .if2 .taken)) (c .before .before .set-pin .ensures)
 
 returns-2 : tie.Need-returns-2
-unfolding unpinned
+unfolding unpinBlock
 returns-2 c = let a = c .before .before .before .before .before .before .before .args in
     left-fault (a .device .now) _ (c .before .before .before .before .device-ok .ensures) (c .before .before .before .if1 .taken) (λ (d : MemoryDevice). not (isPinned d (a .block))) 15 (λ (d : MemoryDevice). withPins d (withPin (d .pinned) (a .block) false)) Pin refl (ap not (sym (c .before .is-pinned .ensures .0) ∙ c .if2 .left))
 
 returns-3 : tie.Need-returns-3
-unfolding unpinned
+unfolding unpinBlock
 returns-3 c = left-27 (c .before .before .before .before .args .device .now) _ (c .before .device-ok .ensures) _ (c .if1 .left)
 
 pub unpin-spec : {M : Type 1} → statement M

@@ -9,12 +9,12 @@ use Rattle.map_check.specs.Check.{reply, Accepted}
 use mathlib.Core.Path.{_≡_, sym, ap, _∙_}
 use Rattle.map_check.specs.Reply.{Reply, plain}
 use Rattle.device_words.specs.Device.{MemoryDevice}
-use Rattle.memory_device.specs.Record.{Outcome}
+use Rattle.memory_device.specs.Record.{HostOutcome}
 use borrow.Author.Needs.{needs}
 use Rattle.memory_device.proofs.setup.set_up.Statement.{statement}
 use Rattle.memory_device.proofs.setup.set_up.Tie as tie
 
-abbrev with-device : Reply → MemoryDevice → Outcome
+abbrev with-device : Reply → MemoryDevice → HostOutcome
 with-device r d = record { reply = r; device = d }
 
 ok : (c : tie.Then1) → Accepted (mapOf (c .before .before .before .before .args .map .now)) (c .before .before .before .before .args .memory-length)

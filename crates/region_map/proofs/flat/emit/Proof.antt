@@ -12,7 +12,7 @@ use Rattle.region_map.specs.Walk.{walkRoot}
 use Rattle.region_map.specs.FlatList.{flat}
 use Rattle.region_map.specs.Flatten.{backingOf}
 use Rattle.region_map.specs.Contracts.{Viewed, Grows, Blank}
-use Rattle.region_map.specs.Pieces.{horizonOf, endOf}
+use Rattle.region_map.specs.Pieces.{horizonOf, pieceEnd}
 use Rattle.region_map.proofs.RenderLaws.{Emitted, none-emitted, all-emitted, piece-grew, one-emitted}
 use Rattle.region_map.proofs.ViewLaws.{step-leaf, still-full, kept}
 use Rattle.region_map.proofs.ViewWords.{filled-words}
@@ -37,7 +37,7 @@ stop c = c .before .before .before .before .before .least .result
 
 -- where a piece ends, or the table, whichever is nearer
 ends : (c : tie.After-push-range Inv-loop μ-loop)
-    → (stop c ≤ endOf (theTable c) (c .before .before .before .before .before .before .before .before .before .loop .i)) × (stop c < endOf (theTable c) (c .before .before .before .before .before .before .before .before .before .loop .i) → horizonOf (theTable c) ≤ stop c)
+    → (stop c ≤ pieceEnd (theTable c) (c .before .before .before .before .before .before .before .before .before .loop .i)) × (stop c < pieceEnd (theTable c) (c .before .before .before .before .before .before .before .before .before .loop .i) → horizonOf (theTable c) ≤ stop c)
 ends c =
     let p = c .before .before .before .before .before .before .before .piece-at .ensures in
     let l = c .before .before .before .before .before .least .ensures in

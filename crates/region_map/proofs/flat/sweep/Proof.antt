@@ -7,6 +7,7 @@ use lib.ListN.{length}
 use Rattle.map_records.specs.Map.{region}
 use Rattle.map_records.specs.View.{entries}
 use Rattle.map_records.specs.Words.{mapOf, viewOf}
+use Rattle.region_map.specs.Pieces.{pieceTableLength}
 use Rattle.map_records.specs.declared.map.Region.{Region}
 use Rattle.map_records.specs.declared.map.RegionMap.{RegionMap}
 use Rattle.region_map.specs.Walk.{walkRoot}
@@ -19,7 +20,7 @@ use Rattle.region_map.proofs.flat.sweep.Statement.{statement}
 use Rattle.region_map.proofs.flat.sweep.Tie as tie
 
 abbrev Inv-loop : tie.InvT-loop
-Inv-loop map view₀ root size table₀ at₀ view table at = (at ≤ size) × Viewed view × (entries (viewOf view) ≡ flat (backingOf (mapOf map)) (walkRoot (mapOf map)) at) × (Blank (viewOf view₀) → Blank (viewOf view)) × (length table ≡ 1027)
+Inv-loop map view₀ root size table₀ at₀ view table at = (at ≤ size) × Viewed view × (entries (viewOf view) ≡ flat (backingOf (mapOf map)) (walkRoot (mapOf map)) at) × (Blank (viewOf view₀) → Blank (viewOf view)) × (length table ≡ pieceTableLength)
 
 abbrev μ-loop : tie.MeasureT-loop
 μ-loop map view₀ root size table₀ at₀ view table at = size - at

@@ -5,7 +5,7 @@ use mathlib.Core.Logic.{_⊎_, inl, inr, ⊎-elim}
 use Prim.Native.Nat.{ℕ, _+_, _*_}
 use lib.ListN.{length, getD}
 use lib.Seq.{length-sets}
-use Rattle.region_map.specs.Pieces.{countOf, horizonOf, pieceWords}
+use Rattle.region_map.specs.Pieces.{countOf, horizonOf, pieceWords, pieceTableLength}
 use Rattle.region_map.proofs.PieceLaws.{Ready, ready-room, ready-full, insert-room, insert-full}
 use borrow.Author.Needs.{needs}
 use Rattle.region_map.proofs.pieces.insert.Statement.{statement}
@@ -28,7 +28,7 @@ made j =
     (λ x. inl (subst (λ (u : List ℕ). Ready w i (countOf w) (horizonOf w) u) (sym (x .5)) (ready-room w _ i (countOf w) (s .pre .0 .size) (x .2 .ensures)), x .0 .left))
     (j .if1 .came)
 
-made-size : (j : tie.Joined1) → length (j .if1 .table) ≡ 1027
+made-size : (j : tie.Joined1) → length (j .if1 .table) ≡ pieceTableLength
 made-size j = ⊎-elim (λ x. x .0 .size) (λ x. x .0 .size) (made j)
 
 put-piece-requires : tie.Need-put-piece-requires

@@ -2,13 +2,13 @@
 use Prim.Native.Nat.{_-_}
 use native.Mathlib.Omega.{arith}
 use lib.Dec.{ltb}
-use Rattle.region_map.specs.Pieces.{countOf, Run}
+use Rattle.region_map.specs.Pieces.{countOf, TakenUpTo}
 use Rattle.region_map.proofs.FillLaws.{taken-on, run-one, run-more}
 use Rattle.region_map.proofs.pieces.skip.Statement.{statement}
 use Rattle.region_map.proofs.pieces.skip.Tie as tie
 
 abbrev Inv-loop : tie.InvT-loop
-Inv-loop table i end at₀ address₀ at address = Run table i address at
+Inv-loop table i end at₀ address₀ at address = TakenUpTo table i address at
 
 abbrev μ-loop : tie.MeasureT-loop
 μ-loop table i end at₀ address₀ at address = countOf table - at

@@ -6,7 +6,7 @@ use native.Mathlib.Omega.{arith}
 use Rattle.map_check.specs.Clash.{priorityOf}
 use Rattle.region_map.specs.Walk.{ranked, walk}
 use Rattle.region_map.specs.Contracts.{answerIn}
-use Rattle.region_map.specs.Pieces.{window, Behind}
+use Rattle.region_map.specs.Pieces.{inSpan, Behind}
 use Rattle.map_records.specs.Words.{mapOf}
 use Rattle.region_map.proofs.WalkLaws.{is-child, child-below}
 use Rattle.region_map.proofs.RenderLaws.{behind-at, behind-size, region-facts, nothing-there, some-there, not-reached, through-alias, through-children, the-node, no-node, child-then, child-begun, child-ahead, child-beyond}
@@ -257,7 +257,7 @@ render-children-render-requires-2 t c κs =
 put : (t : ℕ) (c : render-children-lts.Joined3 (children-calls t) (render-children-at t) render-children.Post)
     → let a = c .before .before .before .before .before .before .before .before .args in
     Behind (a .table .now)
-    (window (answerIn (mapOf (a .map .now)) (a .n) (c .before .before .before .before .before .next-child .result - 1)) (a .at .first .0) (a .at .offset .0) (a .at .end .0))
+    (inSpan (answerIn (mapOf (a .map .now)) (a .n) (c .before .before .before .before .before .next-child .result - 1)) (a .at .first .0) (a .at .offset .0) (a .at .end .0))
     (c .if3 .table)
 put t c =
     let s = c .before .before .before .before .before .before .before .before in

@@ -5,7 +5,8 @@ use Prim.Native.Nat.{ℕ}
 use lib.ListN.{length, replicate, length-replicate}
 use Rattle.map_records.specs.Words.{mapOf}
 use Rattle.map_check.specs.Check.{reply, Accepted}
-use Rattle.region_map.specs.Flatten.{Made, flatList}
+use Rattle.region_map.specs.Flatten.{flatList}
+use Rattle.map_check.specs.Reply.{Laid}
 use Rattle.region_map.specs.Contracts.{Grows}
 use Rattle.map_check.proofs.Accepted.{is-accepted, passed-reply}
 use Rattle.map_check.proofs.MapWords.{accepted-tree, accepted-some}
@@ -13,6 +14,7 @@ use Rattle.region_map.proofs.ViewWords.{none-yet, none-blank, into-othe
 use borrow.Author.Needs.{needs}
 use Rattle.region_map.proofs.view.flatten.Statement.{statement}
 use Rattle.region_map.proofs.view.flatten.Tie as tie
+use Rattle.map_records.specs.Limits.{viewLength}
 
 ok : (c : tie.Then2) → Accepted (mapOf (c .before .before .before .before .before .before .args .map .now)) (c .before .before .before .before .before .before .args .memory-length)
 ok c = is-accepted _ _ _ (c .before .before .check-map .ensures) (sym (c .before .accepts .ensures) ∙ c .if2 .taken)
@@ -20,18 +22,18 @@ ok c = is-accepted _ _ _ (c .before .before .check-map .ensures) (sym (c .before
 returns : tie.Need-returns
 returns c =
     let e = into-other (mapOf (c .before .before .before .args .map .now)) (c .before .before .before .args .memory-length) (c .before .before .before .args .view .now) (c .if1 .taken) in
-    (sym (ap (λ (m : Made). m .reply) e), sym (ap (λ (m : Made). m .words) e))
+    (sym (ap (λ (m : Laid). m .reply) e), sym (ap (λ (m : Laid). m .words) e))
 
 sweep-requires : tie.Need-sweep-requires
-sweep-requires c κs = ((accepted-tree _ _ (ok (c .before)), accepted-some _ _ (ok (c .before))), (length-replicate {A = ℕ} 1537 0, none-yet))
+sweep-requires c κs = ((accepted-tree _ _ (ok (c .before)), accepted-some _ _ (ok (c .before))), (length-replicate {A = ℕ} viewLength 0, none-yet))
 
 returns-2 : tie.Need-returns-2
 returns-2 c =
     let m = mapOf (c .before .before .before .before .before .before .before .before .before .before .args .map .now) in
     let e =
     into-full m (c .before .before .before .before .before .before .before .before .before .before .args .memory-length) (c .before .before .before .before .before .before .before .before .before .before .args .view .now) (c .before .before .before .before .before .before .before .if1 .left) (ok (c .before .before .before .before))
-    (subst (λ (b : Bool). Grows (flatList m) (replicate 1537 0) b (c .before .before .sweep .last .1 .0)) (c .if3 .taken) (c .before .before .sweep .ensures)) in
-    (sym (ap (λ (x : Made). x .reply) e), sym (ap (λ (x : Made). x .words) e))
+    (subst (λ (b : Bool). Grows (flatList m) (replicate viewLength 0) b (c .before .before .sweep .last .1 .0)) (c .if3 .taken) (c .before .before .sweep .ensures)) in
+    (sym (ap (λ (x : Laid). x .reply) e), sym (ap (λ (x : Laid). x .words) e))
 
 slice-aggregate-copy-words : tie.Need-slice-aggregate-copy-words
 slice-aggregate-copy-words c = sym (c .before .before .before .before .sweep .ensures .words)
@@ -46,14 +48,14 @@ returns-3 : tie.Need-returns-3
 returns-3 c =
     let m = mapOf (c .before .before .before .before .before .before .before .before .before .before .before .before .before .before .before .args .map .now) in
     let e =
-    into-made m (c .before .before .before .before .before .before .before .before .before .before .before .before .before .before .before .args .memory-length) (c .before .before .before .before .before .before .before .before .before .before .before .before .before .before .before .args .view .now) (c .before .before .before .before .before .before .before .before .before .before .before .before .if1 .left) (ok (c .before .before .before .before .before .before .before .before .before)) (replicate 1537 0) (c .before .before .before .before .before .before .before .sweep .last .1 .0) none-blank
-    (subst (λ (b : Bool). Grows (flatList m) (replicate 1537 0) b (c .before .before .before .before .before .before .before .sweep .last .1 .0)) (c .before .before .before .before .before .if3 .left) (c .before .before .before .before .before .before .before .sweep .ensures)) in
-    (passed-reply (reply (c .before .before .before .before .before .before .before .before .before .before .before .check-map .result)) (sym (c .before .before .before .before .before .before .before .before .before .before .accepts .ensures) ∙ c .before .before .before .before .before .before .before .before .before .if2 .taken) ∙ sym (ap (λ (x : Made). x .reply) e), c .before .before .copy-words .ensures ∙ sym (ap (λ (x : Made). x .words) e))
+    into-made m (c .before .before .before .before .before .before .before .before .before .before .before .before .before .before .before .args .memory-length) (c .before .before .before .before .before .before .before .before .before .before .before .before .before .before .before .args .view .now) (c .before .before .before .before .before .before .before .before .before .before .before .before .if1 .left) (ok (c .before .before .before .before .before .before .before .before .before)) (replicate viewLength 0) (c .before .before .before .before .before .before .before .sweep .last .1 .0) none-blank
+    (subst (λ (b : Bool). Grows (flatList m) (replicate viewLength 0) b (c .before .before .before .before .before .before .before .sweep .last .1 .0)) (c .before .before .before .before .before .if3 .left) (c .before .before .before .before .before .before .before .sweep .ensures)) in
+    (passed-reply (reply (c .before .before .before .before .before .before .before .before .before .before .before .check-map .result)) (sym (c .before .before .before .before .before .before .before .before .before .before .accepts .ensures) ∙ c .before .before .before .before .before .before .before .before .before .if2 .taken) ∙ sym (ap (λ (x : Laid). x .reply) e), c .before .before .copy-words .ensures ∙ sym (ap (λ (x : Laid). x .words) e))
 
 returns-4 : tie.Need-returns-4
 returns-4 c =
     let e = into-refused (mapOf (c .before .before .before .before .before .before .args .map .now)) (c .before .before .before .before .before .before .args .memory-length) (c .before .before .before .before .before .before .args .view .now) (c .before .before .before .if1 .left) _ (c .before .before .check-map .ensures) (sym (c .before .accepts .ensures) ∙ c .if2 .left) in
-    (sym (ap (λ (m : Made). m .reply) e), sym (ap (λ (m : Made). m .words) e))
+    (sym (ap (λ (m : Laid). m .reply) e), sym (ap (λ (m : Laid). m .words) e))
 
 pub flatten-spec : {M : Type 1} → statement M
 flatten-spec =

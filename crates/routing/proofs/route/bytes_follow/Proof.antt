@@ -75,14 +75,23 @@ add-if2-2 c =
     omega (arith, c .before .before .before .before .before .before .before .before .before .loop-test .taken, p .1 .1 .2, c .before .before .before .before .before .before .before .before .before .before .before .offset-in .ensures, read-offset (p .0) (p .1 .0) (p .1 .1 .0) (c .before .before .before .before .before .before .before .before .before .before .before .before .range-at .ensures))
 
 -- what the test of a byte says
-told : (c : tie.After-struct-known5 Inv-loop μ-loop) → goesOn (viewOf (c .before .before .before .before .before .before .before .before .before .before .before .before .before .before .before .args .view .now)) (c .before .before .before .before .before .before .before .before .before .before .before .before .before .before .before .args .a .0) (c .before .before .before .before .before .before .before .before .before .before .before .loop .i) ≡ (eqb (c .before .before .before .before .before .range-at2 .result .region) (c .before .before .before .before .before .before .before .before .before .before .before .before .before .range-at .result .region) && eqb (c .before .before .before .before .offset-in2 .result .0) (c .before .before .before .before .before .before .before .before .before .before .before .before .offset-in .result .0 + c .before .before .before .before .before .before .before .before .before .before .before .loop .i))
+told : (c : tie.After-struct-known5 Inv-loop μ-loop) → (let s = c .before .before .before .before .before .before .before .before .before .before .before .before .before .before .before in
+    let first = c .before .before .before .before .before .before .before .before .before .before .before .before in
+    let here = c .before .before .before .before in
+    let i = c .before .before .before .before .before .before .before .before .before .before .before .loop .i in
+    goesOn (viewOf (s .args .view .now)) (s .args .a .0) i
+    ≡ (eqb (here .before .range-at2 .result .region) (first .before .range-at .result .region) && eqb (here .offset-in2 .result .0) (first .offset-in .result .0 + i)))
 told c =
     let p = c .before .before .before .before .before .before .before .before .before .before .before .before .before .before .before .pre in
-    let y = c .before .before .before .before .before .range-at2 .result in
-    let x = c .before .before .before .before .before .before .before .before .before .before .before .before .before .range-at .result in
-    read-byte (p .0) (p .1 .0) (p .1 .1 .0) (c .before .before .before .before .before .before .before .before .before .before .before .before .before .range-at .ensures) (c .before .before .before .before .before .before .before .before .before .before .before .loop .i) (c .before .before .before .before .before .before .before .before .near .result) (c .before .before .before .before .before .before .before .before .near .ensures) (found (c .before .before .before .before .before .before)) y (c .before .before .before .before .before .range-at2 .ensures)
-    ∙ ap (λ (n : ℕ). eqb (y .region) (x .region) && eqb n (offsetIn x (c .before .before .before .before .before .before .before .before .before .before .before .before .before .before .before .args .a .0) + c .before .before .before .before .before .before .before .before .before .before .before .loop .i)) (sym (c .before .before .before .before .offset-in2 .ensures))
-    ∙ ap (λ (n : ℕ). eqb (y .region) (x .region) && eqb (c .before .before .before .before .offset-in2 .result .0) (n + c .before .before .before .before .before .before .before .before .before .before .before .loop .i)) (sym (c .before .before .before .before .before .before .before .before .before .before .before .before .offset-in .ensures))
+    let first = c .before .before .before .before .before .before .before .before .before .before .before .before in
+    let here = c .before .before .before .before in
+    let x = first .before .range-at in
+    let y = here .before .range-at2 in
+    let i = c .before .before .before .before .before .before .before .before .before .before .before .loop .i in
+    let near = c .before .before .before .before .before .before .before .before .near in
+    read-byte (p .0) (p .1 .0) (p .1 .1 .0) (x .ensures) i (near .result) (near .ensures) (found (c .before .before .before .before .before .before)) (y .result) (y .ensures)
+    ∙ ap (λ (n : ℕ). eqb (y .result .region) (x .result .region) && eqb n (offsetIn (x .result) (c .before .before .before .before .before .before .before .before .before .before .before .before .before .before .before .args .a .0) + i)) (sym (here .offset-in2 .ensures))
+    ∙ ap (λ (n : ℕ). eqb (y .result .region) (x .result .region) && eqb (here .offset-in2 .result .0) (n + i)) (sym (first .offset-in .ensures))
 
 returns-2 : tie.Need-returns-2 Inv-loop μ-loop
 returns-2 c =

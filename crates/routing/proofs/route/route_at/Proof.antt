@@ -69,18 +69,23 @@ blocks-plugged-requires c κs =
 
 returns-5 : tie.Need-returns-5
 returns-5 c =
-    let s = c .before .before .before .before .before .before .before .before .before .before .before .before .before .before .before .before in
-    read-unplugged (s .pre .0) (s .pre .1 .1) (found (c .before .before .before .before .before .before .before .before .before .before)) (pluggedIn (s .args .block) (s .args .plugged .now)) (s .args .w) (width (c .before .before .before .before .before .before .before .before .before .before .before .before)) (c .before .before .before .before .before .before .before .before .before .is-whole .result) (c .before .before .before .before .before .before .before .before .before .is-whole .ensures) (c .before .before .before .before .before .before .before .before .if3 .left) (c .before .before .before .before .before .before .before .range-at .ensures) (c .before .before .before .before .before .before .offset-in .ensures)
-    (c .before .before .if5 .taken) (sym (c .before .blocks-plugged .ensures) ∙ not-true _ (c .if6 .taken))
+    let o = c .before .before .before .before .before .before in
+    let s = o .before .before .before .before .before .before .before .before .before .before in
+    let whole = o .before .before .before .is-whole in
+    read-unplugged (s .pre .0) (s .pre .1 .1) (found (o .before .before .before .before)) (pluggedIn (s .args .block) (s .args .plugged .now)) (s .args .w) (width (o .before .before .before .before .before .before)) (whole .result) (whole .ensures) (o .before .before .if3 .left)
+    (o .before .range-at .ensures) (o .offset-in .ensures) (c .before .before .if5 .taken) (sym (c .before .blocks-plugged .ensures) ∙ not-true _ (c .if6 .taken))
 
 place-of-requires : tie.Need-place-of-requires
 place-of-requires c κs = omega (arith, c .before .before .before .before .offset-in .ensures, read-place (c .before .before .before .before .before .before .before .before .before .before .before .before .before .before .pre .0) (c .before .before .before .before .before .before .before .before .before .before .before .before .before .before .pre .1 .1) (found (c .before .before .before .before .before .before .before .before)) (c .before .before .before .before .before .range-at .ensures) (c .before .before .if4 .left))
 
 returns-6 : tie.Need-returns-6
 returns-6 c =
-    let s = c .before .before .before .before .before .before .before .before .before .before .before .before .before .before .before in
-    read-memory (s .pre .0) (s .pre .1 .1) (found (c .before .before .before .before .before .before .before .before .before)) (pluggedIn (s .args .block) (s .args .plugged .now)) (s .args .w) (width (c .before .before .before .before .before .before .before .before .before .before .before)) (c .before .before .before .before .before .before .before .before .is-whole .result) (c .before .before .before .before .before .before .before .before .is-whole .ensures) (c .before .before .before .before .before .before .before .if3 .left) (c .before .before .before .before .before .before .range-at .ensures) (c .before .before .before .before .before .offset-in .ensures) (c .place-of .result) (c .place-of .ensures)
-    (c .before .before .before .if4 .left) (⊎-elim (λ t e. sym (t .1 .ensures) ∙ not-false _ (t .2 .left)) (λ t e. absurd (t .left e)) (c .before .if5 .came))
+    let o = c .before .before .before .before .before in
+    let s = o .before .before .before .before .before .before .before .before .before .before in
+    let whole = o .before .before .before .is-whole in
+    read-memory (s .pre .0) (s .pre .1 .1) (found (o .before .before .before .before)) (pluggedIn (s .args .block) (s .args .plugged .now)) (s .args .w) (width (o .before .before .before .before .before .before)) (whole .result) (whole .ensures) (o .before .before .if3 .left)
+    (o .before .range-at .ensures) (o .offset-in .ensures) (c .place-of .result) (c .place-of .ensures) (c .before .before .before .if4 .left)
+    (⊎-elim (λ t e. sym (t .1 .ensures) ∙ not-false _ (t .2 .left)) (λ t e. absurd (t .left e)) (c .before .if5 .came))
 
 pub route-at-spec : {M : Type 1} → statement M
 route-at-spec =

@@ -11,7 +11,7 @@ use Rattle.map_records.specs.View.{offsetIn}
 use Rattle.guest_view.specs.Contracts.{Judged}
 use Rattle.guest_view.proofs.WordLaws.{view-judged}
 use Rattle.guest_view.proofs.ReadLaws.{spot-in, read-low, read-offset}
-use Rattle.region_map.specs.Resolve.{Led, leads}
+use Rattle.region_map.specs.Resolve.{WalkAnswer, leads}
 use Rattle.region_map.specs.declared.resolve.Resolved.the-variants.{At}
 use Rattle.routing.proofs.RouteLaws.{looked-record, looked-at, looked-nothing}
 use Rattle.routing.proofs.view.look_up.Statement.{statement}
@@ -46,8 +46,8 @@ offset-in-requires c κs = (
 returns : tie.Need-returns
 returns c =
     let a = c .before .before .before .before .before .before .before .before .args in
-    ap {B = Led} (λ (n : ℕ). leads (At (c .before .range-at .result .region) (record { 0 = n }))) (c .offset-in .ensures)
-    ∙ ap {B = Led} (λ (r : FlatRange). leads (At (r .region) (record { 0 = offsetIn r (a .address .0) }))) (c .before .range-at .ensures)
+    ap {B = WalkAnswer} (λ (n : ℕ). leads (At (c .before .range-at .result .region) (record { 0 = n }))) (c .offset-in .ensures)
+    ∙ ap {B = WalkAnswer} (λ (r : FlatRange). leads (At (r .region) (record { 0 = offsetIn r (a .address .0) }))) (c .before .range-at .ensures)
     ∙ sym (looked-at (viewOf (a .view .now)) (a .memory-length) (a .address .0) (ok (c .before .before .before .before .before)) (c .before .before .before .before .near .result) (c .before .before .before .before .near .ensures) (found (c .before .before)))
 
 returns-2 : tie.Need-returns-2

@@ -3,7 +3,7 @@ use Rattle.sheet.proofs.RegionLaws.{fields-more, fields-refused, fields
 use Rattle.sheet.specs.Region.{sheetFields, fieldsFrom}
 use lib.ListN.{drop}
 use Prim.Native.Nat.{_≤_, _-_}
-use Rattle.sheet.specs.Contracts.{regionOf}
+use Rattle.sheet.specs.Contracts.{regionReadBy}
 use mathlib.Core.Path.{_≡_, refl, sym, ap, _∙_}
 use borrow.Author.Needs.{needs}
 use Rattle.sheet.proofs.fields.read_fields.Statement.{statement}
@@ -19,10 +19,10 @@ loop-holds : tie.Need-loop-holds Inv-loop μ-loop
 loop-holds c = (search needs, refl)
 
 returns : tie.Need-returns Inv-loop μ-loop
-returns c = fields-refused _ _ _ _ (c .before .before .before .before .before .loop-test .taken) _ (c .before .before .before .before .field-at .ensures) _ (sym (c .before .before .before .read-field .ensures) ∙ ap regionOf (c .before .answer .given .1)) ∙ c .before .before .before .before .before .before .loop .inv .1
+returns c = fields-refused _ _ _ _ (c .before .before .before .before .before .loop-test .taken) _ (c .before .before .before .before .field-at .ensures) _ (sym (c .before .before .before .read-field .ensures) ∙ ap regionReadBy (c .before .answer .given .1)) ∙ c .before .before .before .before .before .before .loop .inv .1
 
 loop-again : tie.Need-loop-again Inv-loop μ-loop
-loop-again c = (search needs, fields-more _ _ _ _ (c .before .before .before .before .before .loop-test .taken) _ (c .before .before .before .before .field-at .ensures) _ _ (sym (c .before .before .before .read-field .ensures) ∙ ap regionOf (c .before .known .given .1)) ∙ c .before .before .before .before .before .before .loop .inv .1)
+loop-again c = (search needs, fields-more _ _ _ _ (c .before .before .before .before .before .loop-test .taken) _ (c .before .before .before .before .field-at .ensures) _ _ (sym (c .before .before .before .read-field .ensures) ∙ ap regionReadBy (c .before .known .given .1)) ∙ c .before .before .before .before .before .before .loop .inv .1)
 
 returns-2 : tie.Need-returns-2 Inv-loop μ-loop
 returns-2 c = fields-done _ _ _ _ (c .loop-test .left) ∙ c .before .loop .inv .1

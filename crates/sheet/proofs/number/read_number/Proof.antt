@@ -1,6 +1,6 @@
 -- `sheet::number::read_number` meets its contract. Assumes nothing.
 use Rattle.sheet.proofs.NumberLaws.{Reading, started, scale-bound, group-bound, at-end, at-last-zero, at-last, at-eighth, at-more, at-ninth}
-use Rattle.sheet.specs.Number.{number}
+use Rattle.sheet.specs.Number.{sheetNumber}
 use Prim.Native.Nat.{_-_}
 use native.Mathlib.Omega.{arith}
 use borrow.Author.Needs.{needs}
@@ -8,7 +8,7 @@ use Rattle.sheet.proofs.number.read_number.Statement.{statement}
 use Rattle.sheet.proofs.number.read_number.Tie as tie
 
 abbrev Inv-loop : tie.InvT-loop
-Inv-loop sheet at₀ value₀ scale₀ i₀ at value scale i = Reading sheet (number sheet at₀) at value scale i
+Inv-loop sheet at₀ value₀ scale₀ i₀ at value scale i = Reading sheet (sheetNumber sheet at₀) at value scale i
 
 abbrev μ-loop : tie.MeasureT-loop
 μ-loop sheet at₀ value₀ scale₀ i₀ at value scale i = 8 - i

@@ -3,19 +3,20 @@ use mathlib.Core.Path.{sym, ap, _∙_}
 use Prim.Native.Nat.{ℕ}
 use lib.ListN.{length, length-replicate}
 use Rattle.map_records.proofs.WordLaws.{empty-map-words}
-use Rattle.sheet.specs.Sheet.{Made}
+use Rattle.map_check.specs.Reply.{Laid}
 use Rattle.sheet.proofs.SheetLaws.{into-other, into-reply, into-read, into-kept}
 use borrow.Author.Needs.{needs}
 use Rattle.sheet.proofs.reading.read_sheet.Statement.{statement}
 use Rattle.sheet.proofs.reading.read_sheet.Tie as tie
+use Rattle.map_records.specs.Limits.{mapLength}
 
 returns : tie.Need-returns
 returns c =
     let e = into-other (c .before .before .before .args .sheet .now) (c .before .before .before .args .memory-length) (c .before .before .before .args .map .now) (c .if1 .taken) in
-    (sym (ap (λ (x : Made). x .reply) e), sym (ap (λ (x : Made). x .words) e))
+    (sym (ap (λ (x : Laid). x .reply) e), sym (ap (λ (x : Laid). x .words) e))
 
 read-map-requires : tie.Need-read-map-requires
-read-map-requires c κs = (length-replicate {A = ℕ} 289 0, empty-map-words)
+read-map-requires c κs = (length-replicate {A = ℕ} mapLength 0, empty-map-words)
 
 slice-aggregate-copy-words : tie.Need-slice-aggregate-copy-words
 slice-aggregate-copy-words c = sym (c .before .before .before .before .before .read-map .ensures .size)

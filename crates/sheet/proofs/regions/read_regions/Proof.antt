@@ -5,15 +5,17 @@ use native.Mathlib.Nat.{sub-zero}
 use native.Mathlib.Omega.{arith}
 use lib.ListN.{length}
 use Rattle.map_records.specs.Words.{mapOf}
-use Rattle.sheet.specs.Contracts.{regionOf}
-use Rattle.sheet.specs.Sheet.{regionsFrom, blankMap}
+use Rattle.sheet.specs.Contracts.{regionReadBy}
+use Rattle.sheet.specs.Sheet.{regionsFrom}
+use Rattle.map_records.specs.Map.{blankMap}
 use Rattle.sheet.proofs.SheetLaws.{regions-laid, regions-refused, regions-done}
 use borrow.Author.Needs.{needs}
 use Rattle.sheet.proofs.regions.read_regions.Statement.{statement}
 use Rattle.sheet.proofs.regions.read_regions.Tie as tie
+use Rattle.map_records.specs.Limits.{mapLength}
 
 abbrev Inv-loop : tie.InvT-loop
-Inv-loop sheet count map₀ at₀ n₀ map at n = (n ≤ count) × (length map ≡ 289) × (regionsFrom sheet (count - n) n (mapOf map) (at .at) ≡ regionsFrom sheet count 0 (blankMap count) (at₀ .at))
+Inv-loop sheet count map₀ at₀ n₀ map at n = (n ≤ count) × (length map ≡ mapLength) × (regionsFrom sheet (count - n) n (mapOf map) (at .at) ≡ regionsFrom sheet count 0 (blankMap count) (at₀ .at))
 
 abbrev μ-loop : tie.MeasureT-loop
 μ-loop sheet count map₀ at₀ n₀ map at n = count - n
@@ -28,7 +30,7 @@ same-length : tie.Need-same-length Inv-loop μ-loop
 same-length c = c .before .before .before .before .before .loop .inv .1 ∙ sym (c .before .before .before .before .before .before .before .before .pre .1 .0)
 
 returns : tie.Need-returns Inv-loop μ-loop
-returns c = (regions-refused _ _ _ _ _ (c .before .before .before .before .loop-test .taken) _ (sym (c .before .before .before .read-region .ensures) ∙ ap regionOf (c .before .answer .given .1)) ∙ c .before .before .before .before .before .loop .inv .2, c .before .before .before .before .before .loop .inv .1)
+returns c = (regions-refused _ _ _ _ _ (c .before .before .before .before .loop-test .taken) _ (sym (c .before .before .before .read-region .ensures) ∙ ap regionReadBy (c .before .answer .given .1)) ∙ c .before .before .before .before .before .loop .inv .2, c .before .before .before .before .before .loop .inv .1)
 
 loop-less : tie.Need-loop-less Inv-loop μ-loop
 loop-less c = omega (arith, c .before .before .before .before .before .before .before .before .loop-test .taken)
@@ -38,7 +40,7 @@ loop-again c =
     let s = c .before .before .before .before .before .before .before .before .before .before .before .before in
     let l = c .before .before .before .before .before .before .before .before .before .loop in
     let h = c .before .before .before .before .before .before .before .before .loop-test .taken in
-    let r = regions-laid (s .args .sheet .now) (s .args .count) (l .n) (l .map) (c .before .before .put-region .last .0) (l .at .at) (l .inv .1) h (omega (arith, h, s .pre .0)) _ _ (sym (c .before .before .before .before .before .before .before .read-region .ensures) ∙ ap regionOf (c .before .before .before .before .before .region .given .1)) (c .before .before .put-region .ensures) in
+    let r = regions-laid (s .args .sheet .now) (s .args .count) (l .n) (l .map) (c .before .before .put-region .last .0) (l .at .at) (l .inv .1) h (omega (arith, h, s .pre .0)) _ _ (sym (c .before .before .before .before .before .before .before .read-region .ensures) ∙ ap regionReadBy (c .before .before .before .before .before .region .given .1)) (c .before .before .put-region .ensures) in
     (omega (arith, h), r .1, r .0 ∙ l .inv .2)
 
 same-length-2 : tie.Need-same-length-2 Inv-loop μ-loop

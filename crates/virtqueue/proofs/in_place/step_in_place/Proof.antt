@@ -3,7 +3,7 @@ use mathlib.Core.Path.{sym, _∙_}
 use native.Mathlib.Omega.{arith}
 use lib.ListN.{length}
 use borrow.Author.Tests.{eqb-true}
-use Rattle.device_words.specs.Words.{deviceOf}
+use Rattle.device_words.specs.Words.{deviceOf, deviceLength}
 use Rattle.map_records.specs.Words.{viewOf}
 use Rattle.guest_view.proofs.WordLaws.{ordered-judged}
 use Rattle.virtqueue.proofs.DeviceLaws.{full}
@@ -21,7 +21,7 @@ near-requires c κs = ordered-judged (c .before .before .before .before .before 
 step-judged-requires : tie.Need-step-judged-requires
 step-judged-requires c κs = let a = c .before .before .before .before .before .before .before .before .before .args in
     let f = facts (c .before .before .before) in
-    let w = eqb-true (length (a .device .now)) 37 (full (viewOf (a .view .now)) (a .device .now) (a .queue) (length (a .mem .now)) (sym (c .before .before .before .before .records-ok .ensures) ∙ c .before .before .before .if1 .taken)) in
+    let w = eqb-true (length (a .device .now)) deviceLength (full (viewOf (a .view .now)) (a .device .now) (a .queue) (length (a .mem .now)) (sym (c .before .before .before .before .records-ok .ensures) ∙ c .before .before .before .if1 .taken)) in
     record { judged = ordered-judged (a .view .now) (f .ordered); backed = f .backed; words = w; valid = f .device; queue = f .queue }
 
 returns : tie.Need-returns
@@ -35,4 +35,4 @@ pub step-in-place-spec : {M : Type 1} → statement M
 step-in-place-spec =
     tie.close
     (tie.spec (λ c κs. search needs) near-requires step-judged-requires (λ c. search needs) (λ c. search needs) returns
-    (λ c. search needs) returns-2)
+    (λ c. search needs) (λ c. search needs) returns-2)

@@ -6,7 +6,7 @@ use Prim.Native.Nat.{ℕ, _-_}
 use native.Mathlib.Omega.{arith}
 use lib.ListN.{length}
 use borrow.Author.Tests.{not-true, not-false, eqb-true}
-use Rattle.device_words.specs.Words.{deviceOf}
+use Rattle.device_words.specs.Words.{deviceOf, deviceLength}
 use Rattle.map_records.specs.Words.{viewOf}
 use Rattle.guest_view.specs.Contracts.{Judged}
 use Rattle.guest_view.proofs.WordLaws.{ordered-judged}
@@ -37,8 +37,8 @@ facts c = records-facts _ _ _ _ (judged c) (omega (arith, c .before .before .bef
 words : (c : tie.Else1 Inv-loop μ-loop) → Judged (c .before .before .before .before .before .before .args .view .now)
 words c = ordered-judged (c .before .before .before .before .before .before .args .view .now) (facts c .ordered)
 
-whole : (c : tie.Else1 Inv-loop μ-loop) → length (c .before .before .before .before .before .before .args .device .now) ≡ 37
-whole c = eqb-true (length (c .before .before .before .before .before .before .args .device .now)) 37 (full _ _ _ _ (judged c))
+whole : (c : tie.Else1 Inv-loop μ-loop) → length (c .before .before .before .before .before .before .args .device .now) ≡ deviceLength
+whole c = eqb-true (length (c .before .before .before .before .before .before .args .device .now)) deviceLength (full _ _ _ _ (judged c))
 
 -- what the whole run comes to is what is promised
 done : (c : tie.After-least Inv-loop μ-loop) (served : ℕ) (notified : Bool) (e : RunEnd) (q : SplitQueue) (x m : List ℕ) → length x ≡ length (c .before .before .before .before .before .before .before .args .device .now)
@@ -47,6 +47,10 @@ done : (c : tie.After-least Inv-loop μ-loop) (served : ℕ) (notified : Bool) (
 done c served notified e q x m l f =
     let a = c .before .before .before .before .before .before .before .args in
     run-judged (viewOf (a .view .now)) (a .device .now) (a .queue) (a .mem .now) (a .k) (judged (c .before)) (c .least .result) (c .least .ensures) (record { served = served; notified = notified; end = e; queue = q }) x m l f
+
+-- a step leaves as many words of the device as there were
+kept : (c : tie.After-step-judged Inv-loop μ-loop) → length (c .step-judged .last .1 .0) ≡ length (c .before .before .before .before .before .before .before .before .before .before .before .before .before .args .device .now)
+kept c = c .step-judged .kept .1 .0 ∙ c .before .before .before .before .loop .inv .0 .words ∙ sym (whole (c .before .before .before .before .before .before .before))
 
 records-ok-requires : tie.Need-records-ok-requires Inv-loop μ-loop
 records-ok-requires c κs = tt
@@ -103,22 +107,30 @@ returns-2 : tie.Need-returns-2 Inv-loop μ-loop
 returns-2 c = let l = c .before .loop in rw (l .inv .1) (done (c .before .before .before) _ _ AllDone _ _ _ (l .inv .0 .words ∙ sym (whole (c .before .before .before .before))) (run-all _ _ _ _ _ _ _ _ _ _ (l .inv .0) (c .loop-test .left)))
 
 same-length-4 : tie.Need-same-length-4 Inv-loop μ-loop
-same-length-4 c = c .before .before .before .before .before .before .before .before .step-judged .kept .1 .0 ∙ c .before .before .before .before .before .before .before .before .before .before .before .before .loop .inv .0 .words ∙ sym (whole (c .before .before .before .before .before .before .before .before .before .before .before .before .before .before .before))
+same-length-4 c = kept (c .before .before .before .before .before .before .before .before)
 
 same-length-5 : tie.Need-same-length-5 Inv-loop μ-loop
 same-length-5 c = c .before .before .before .before .before .before .before .before .step-judged .kept .1 .1 .1 .0 ∙ c .before .before .before .before .before .before .before .before .before .before .before .before .loop .inv .0 .same
 
 returns-3 : tie.Need-returns-3 Inv-loop μ-loop
-returns-3 c = done (c .before .before .before .before .before .before .before .before .before .before .before .before .before .before) _ _ (Refused (c .before .outcome .given .0 .0)) _ _ _ (c .before .before .before .before .before .before .before .before .step-judged .kept .1 .0 ∙ c .before .before .before .before .before .before .before .before .before .before .before .before .loop .inv .0 .words ∙ sym (whole (c .before .before .before .before .before .before .before .before .before .before .before .before .before .before .before))) (run-refused _ _ _ _ _ _ _ _ _ _ (c .before .before .before .before .before .before .before .before .before .before .before .before .loop .inv .0) (c .before .before .before .before .before .before .before .before .before .before .before .loop-test .taken) (c .before .before .before .before .before .before .before .before .step-judged .result) _ _ (c .before .before .before .before .before .before .before .before .step-judged .ensures) (c .before .before .before .before .before .before .before .before .step-judged .kept .1 .0) _ (c .before .outcome .given .1))
+returns-3 c =
+    let t = c .before .before .before .before .before .before .before .before in
+    let s = t .step-judged in
+    done (t .before .before .before .before .before .before) _ _ (Refused (c .before .outcome .given .0 .0)) _ _ _ (kept t)
+    (run-refused _ _ _ _ _ _ _ _ _ _ (t .before .before .before .before .loop .inv .0) (t .before .before .before .loop-test .taken) (s .result) _ _ (s .ensures) (s .kept .1 .0) _ (c .before .outcome .given .1))
 
 same-length-6 : tie.Need-same-length-6 Inv-loop μ-loop
-same-length-6 c = c .before .before .before .before .before .before .before .step-judged .kept .1 .0 ∙ c .before .before .before .before .before .before .before .before .before .before .before .loop .inv .0 .words ∙ sym (whole (c .before .before .before .before .before .before .before .before .before .before .before .before .before .before))
+same-length-6 c = kept (c .before .before .before .before .before .before .before)
 
 same-length-7 : tie.Need-same-length-7 Inv-loop μ-loop
 same-length-7 c = c .before .before .before .before .before .before .before .step-judged .kept .1 .1 .1 .0 ∙ c .before .before .before .before .before .before .before .before .before .before .before .loop .inv .0 .same
 
 returns-4 : tie.Need-returns-4 Inv-loop μ-loop
-returns-4 c = done (c .before .before .before .before .before .before .before .before .before .before .before .before .before) _ _ Idle _ _ _ (c .before .before .before .before .before .before .before .step-judged .kept .1 .0 ∙ c .before .before .before .before .before .before .before .before .before .before .before .loop .inv .0 .words ∙ sym (whole (c .before .before .before .before .before .before .before .before .before .before .before .before .before .before))) (run-idle _ _ _ _ _ _ _ _ _ _ (c .before .before .before .before .before .before .before .before .before .before .before .loop .inv .0) (c .before .before .before .before .before .before .before .before .before .before .loop-test .taken) (c .before .before .before .before .before .before .before .step-judged .result) _ _ (c .before .before .before .before .before .before .before .step-judged .ensures) (c .before .before .before .before .before .before .before .step-judged .kept .1 .0) (c .enum-told .given .1))
+returns-4 c =
+    let t = c .before .before .before .before .before .before .before in
+    let s = t .step-judged in
+    done (t .before .before .before .before .before .before) _ _ Idle _ _ _ (kept t)
+    (run-idle _ _ _ _ _ _ _ _ _ _ (t .before .before .before .before .loop .inv .0) (t .before .before .before .loop-test .taken) (s .result) _ _ (s .ensures) (s .kept .1 .0) (c .enum-told .given .1))
 
 pub run-steps-spec : {M : Type 1} → statement M
 run-steps-spec =

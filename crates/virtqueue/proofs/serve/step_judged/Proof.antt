@@ -71,10 +71,15 @@ returns-2 : tie.Need-returns-2
 returns-2 c = let a = c .before .before .before .before .before .before .before .before .before .before .before .before .before .before .before .args in let p = c .before .before .before .before .before .before .before .before .before .before .before .before .before .before .before .pre in judged-idle (viewOf (a .view .now)) (a .device .now) (p .words) (a .queue) (a .mem .now) _ _ _ (took (c .before .before .before .before)) (c .enum-told .given .1)
 
 returns-3 : tie.Need-returns-3
-returns-3 c = let a = c .before .before .before .before .before .before .before .before .before .before .before .before .before .before .before .before .before .before .before .before .before .before .before .before .before .before .before .before .before .before .before .args in
-    let p = c .before .before .before .before .before .before .before .before .before .before .before .before .before .before .before .before .before .before .before .before .before .before .before .before .before .before .before .before .before .before .before .pre in
+returns-3 c =
+    let s = c .before .before .before .before .before .before .before .before .before .before .before .before .before .before .before .before .before .before .before .before .before .before .before .before .before .before .before .before .before .before .before in
+    let a = s .args in
+    let p = s .pre in
+    let e = c .before .before .before .before .before .before .before .before .before .before .before .before .before .before .before .before .offer2 .given .1 in
     let r = c .before .before .before .before .before .serve .ensures in
-    judged-ready (viewOf (a .view .now)) (a .device .now) (p .words) (a .queue) (a .mem .now) _ _ _ (took (c .before .before .before .before .before .before .before .before .before .before .before .before .before .before .before .before .before .before .before .before)) _ _ (c .before .before .before .before .before .before .before .before .before .before .before .before .before .before .before .before .offer2 .given .1) _ _ _ _ _ (c .advanced .ensures) (c .before .before .before .before .before .before .before .before .before .before .before .before .before .used-places .ensures) (c .before .before .before .before .before .before .before .before .before .before .before .used-bytes .ensures) (r .0) (r .1)
+    judged-ready (viewOf (a .view .now)) (a .device .now) (p .words) (a .queue) (a .mem .now) _ _ _
+    (took (c .before .before .before .before .before .before .before .before .before .before .before .before .before .before .before .before .before .before .before .before)) _ _ e _ _ _ _ _ (c .advanced .ensures)
+    (c .before .before .before .before .before .before .before .before .before .before .before .before .before .used-places .ensures) (c .before .before .before .before .before .before .before .before .before .before .before .used-bytes .ensures) (r .0) (r .1)
 
 pub step-judged-spec : {M : Type 1} → statement M
 step-judged-spec =

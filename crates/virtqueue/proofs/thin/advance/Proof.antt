@@ -119,7 +119,10 @@ module _ {M : Type 1} (𝓤 : URA M) (H : Heap 𝓤) (A : Atoms 𝓤) (W : Given
 
   goes-callee : Is SplitQueueT.the-row queue (LL.val SplitQueueT.the-type SplitQueueL.the-laws queue ∷ []) → ent 𝓤 (⋆ 𝓤 H A ((‵ (flft κ-view q-view) ⊛ ‵ (flft κ-mem q-mem)) ∷ (‵ own-view ⊛ ‵ (MutSlice (named 0) κ-mem u8 .own x (sv ∷ []))) ∷ [])) (Callee 𝓤 H A at-mem run .pre to-callee)
   goes-callee queue-is =
-      qed W ((‵ (flft κ-view q-view) ⊛ ‵ (flft κ-mem q-mem)) ∷ (‵ own-view ⊛ ‵ (MutSlice (named 0) κ-mem u8 .own x (sv ∷ []))) ∷ []) ∵ split ! $ move ! (2 ∷ []) $ split ! $ nothing ! $ move ! (2 ∷ 0 ∷ []) $ fjoin ! $ owned ! SplitQueueT.the-row (Is SplitQueueT.the-row) (LL.makes SplitQueueT.the-type SplitQueueL.the-plain 𝓤 H A) queue _ queue-is $ fjoin ! $ owned ! MemoryDeviceT.the-row (Is MemoryDeviceT.the-row) (LL.makes MemoryDeviceT.the-type MemoryDeviceL.the-plain 𝓤 H A) device _ device-is $ fjoin ! $ move ! (1 ∷ 0 ∷ []) $ fjoin ! $ nothing ! $ move ! (3 ∷ 0 ∷ []) $ join ! $ move ! (2 ∷ 0 ∷ []) $ join ! $ join ! $ nothing ! $ move ! (1 ∷ 0 ∷ []) $ done !
+      qed W ((‵ (flft κ-view q-view) ⊛ ‵ (flft κ-mem q-mem)) ∷ (‵ own-view ⊛ ‵ (MutSlice (named 0) κ-mem u8 .own x (sv ∷ []))) ∷ []) ∵
+      split ! $ move ! (2 ∷ []) $ split ! $ nothing ! $ move ! (2 ∷ 0 ∷ []) $ fjoin ! $ owned ! SplitQueueT.the-row (Is SplitQueueT.the-row) (LL.makes SplitQueueT.the-type SplitQueueL.the-plain 𝓤 H A) queue _ queue-is $
+      fjoin ! $ owned ! MemoryDeviceT.the-row (Is MemoryDeviceT.the-row) (LL.makes MemoryDeviceT.the-type MemoryDeviceL.the-plain 𝓤 H A) device _ device-is $
+      fjoin ! $ move ! (1 ∷ 0 ∷ []) $ fjoin ! $ nothing ! $ move ! (3 ∷ 0 ∷ []) $ join ! $ move ! (2 ∷ 0 ∷ []) $ join ! $ join ! $ nothing ! $ move ! (1 ∷ 0 ∷ []) $ done !
 
   exits : (r : Stepped) (w : Val) (zs : List ℕ) → Is SteppedT.the-row r (w ∷ []) → Does (stepped (viewOf view) (recordOf device) queue mem) r zs → length zs ≡ length mem
       → ent 𝓤 (⋆ 𝓤 H A (‵ (fobs γ-queue (SplitQueueT.the-row .coded .code (r .queue))) ∷ ‵ (fbor κ-queue (Body (at-memory SplitQueueT.the-row) b-queue o-queue γ-queue)) ∷ ‵ (flft κ-queue q-queue) ∷ ‵ (flft κ-mem q-mem) ∷ ‵ (flft κ-view q-view) ∷ ‵ (finally u8 γ-mem zs) ∷ ‵ own-view ∷ [])) (Post (LL.val AdvancedT.the-type AdvancedL.the-laws (told r)))
@@ -142,11 +145,33 @@ module _ {M : Type 1} (𝓤 : URA M) (H : Heap 𝓤) (A : Atoms 𝓤) (W : Given
         -- the arguments are made
         assigns ! (of-opd ! (load ! (from ! (hop ! (look ! 22 refl) (stop !))) (look-raw ! 0 refl))) (from ! (stop !)) (init ! 12 refl (LL.lawful SplitQueueT.the-type SplitQueueL.the-laws 𝓤 H A W .typed queue _ queue-is .0)) $ assigns ! (addr ! (from ! (fld ! refl (hop ! (look-in ! 20 (sub ! 0 refl (whole !))) (stop !))))) (from ! (stop !)) (init ! 10 refl (tt, tt)) $ assigns ! (agg ! (and-then ! (load ! (from ! (stop !)) (look ! 10 refl)) (and-then ! (load ! (from ! (fld ! refl (stop !))) (look-in ! 20 (sub ! 1 refl (whole !)))) (no-more !)))) (from ! (stop !)) (init ! 8 refl (tt, (tt, (record { fits = room .0 }, tt)))) $
         -- the call
-        move ! (6 ∷ []) $ use1 W (‵ own-view ⊛ ‵ own-view) (shr-slice-copy 𝓤 H A W (named 2) κ-view u64 .twice x-view (sv-view ∷ [])) $ split ! $ move ! (6 ∷ 7 ∷ []) $ join ! $ move ! (2 ∷ 7 ∷ []) $ join ! $ move ! (1 ∷ 0 ∷ []) $ use2 W (raw (Callee 𝓤 H A at-mem run .pre to-callee)) (goes-callee queue-is) $ calls-at ! fm (Callee 𝓤 H A at-mem run) known to-callee (and-then ! (load ! (from ! (stop !)) (look ! 16 refl)) (and-then ! (load ! (from ! (stop !)) (look ! 14 refl)) (and-then ! (load ! (from ! (stop !)) (look ! 10 refl)) (and-then ! (load ! (from ! (stop !)) (look ! 6 refl)) (no-more !))))) (λ w. use1 W (later (some (λ (r : Stepped). ((‵ (flft κ-view q-view) ⊛ ‵ (flft κ-mem q-mem) ⊛ ‵ ftrue) ⊛ ‵ (SteppedT.the-row .own r (w ∷ []))) ⊛ raw (ensured 𝓤 H A callee.ended (callee.clauses 𝓤 H A at-mem run) (κ-view, (κ-mem, tt)) (x-view, (device, (queue, (x, tt)))) tt r)))) (id⊢ 𝓤 _) $ await ! tt $ pick ! (λ r. split ! $ move ! (1 ∷ []) $ use1 W (some (λ (zs : (Unit {0} × (Unit {0} × (Unit {0} × (List ℕ × Unit {0}))))). ‵ (lasts callee.ended (κ-view, (κ-mem, tt)) (x-view, (device, (queue, (x, tt)))) zs) ⊛ raw (fact 𝓤 (Does (stepped (viewOf view) (recordOf device) queue mem) r (zs .1 .1 .1 .0))))) (id⊢ 𝓤 _) $ pick ! (λ zs. split ! $ move ! (1 ∷ []) $ heard ! (Does (stepped (viewOf view) (recordOf device) queue mem) r (zs .1 .1 .1 .0)) (λ e. fsplit ! $ drop ! $ fsplit ! $ drop ! $ fsplit ! $ drop ! $ fsplit ! $ fsplit ! $ move ! (1 ∷ []) $ feqL ! (λ l. move ! (2 ∷ []) $ split ! $ split ! $ move ! (1 ∷ []) $ split ! $ move ! (3 ∷ []) $ facts ! SteppedT.the-row (Is SteppedT.the-row) (shows 𝓤 H A SteppedT.the-row) r (w ∷ []) (λ is.
+        move ! (6 ∷ []) $ use1 W (‵ own-view ⊛ ‵ own-view) (shr-slice-copy 𝓤 H A W (named 2) κ-view u64 .twice x-view (sv-view ∷ [])) $ split ! $
+        move ! (6 ∷ 7 ∷ []) $ join ! $ move ! (2 ∷ 7 ∷ []) $ join ! $ move ! (1 ∷ 0 ∷ []) $
+        use2 W (raw (Callee 𝓤 H A at-mem run .pre to-callee)) (goes-callee queue-is) $
+        calls-at ! fm (Callee 𝓤 H A at-mem run) known to-callee
+        (and-then ! (load ! (from ! (stop !)) (look ! 16 refl)) (and-then ! (load ! (from ! (stop !)) (look ! 14 refl)) (and-then ! (load ! (from ! (stop !)) (look ! 10 refl)) (and-then ! (load ! (from ! (stop !)) (look ! 6 refl)) (no-more !))))) (λ w.
+        use1 W (later (some (λ (r : Stepped). ((‵ (flft κ-view q-view) ⊛ ‵ (flft κ-mem q-mem) ⊛ ‵ ftrue) ⊛ ‵ (SteppedT.the-row .own r (w ∷ [])))
+        ⊛ raw (ensured 𝓤 H A callee.ended (callee.clauses 𝓤 H A at-mem run) (κ-view, (κ-mem, tt)) (x-view, (device, (queue, (x, tt)))) tt r)))) (id⊢ 𝓤 _) $
+        await ! tt $ pick ! (λ r. split ! $ move ! (1 ∷ []) $
+        use1 W (some (λ (zs : (Unit {0} × (Unit {0} × (Unit {0} × (List ℕ × Unit {0}))))). ‵ (lasts callee.ended (κ-view, (κ-mem, tt)) (x-view, (device, (queue, (x, tt)))) zs) ⊛ raw (fact 𝓤 (Does (stepped (viewOf view) (recordOf device) queue mem) r (zs .1 .1 .1 .0))))) (id⊢ 𝓤 _) $
+        pick ! (λ zs. split ! $ move ! (1 ∷ []) $
+        heard ! (Does (stepped (viewOf view) (recordOf device) queue mem) r (zs .1 .1 .1 .0)) (λ e.
+        fsplit ! $ drop ! $ fsplit ! $ drop ! $ fsplit ! $ drop ! $ fsplit ! $ fsplit ! $ move ! (1 ∷ []) $ feqL ! (λ l.
+        move ! (2 ∷ []) $ split ! $ split ! $ move ! (1 ∷ []) $ split ! $ move ! (3 ∷ []) $
+        facts ! SteppedT.the-row (Is SteppedT.the-row) (shows 𝓤 H A SteppedT.the-row) r (w ∷ []) (λ is.
         -- its result lands in `s`, and is spelled out; what it has is stored behind each reference, and is returned
-        land ! (from ! (stop !)) (init ! 16 refl (LL.lawful SteppedT.the-type SteppedL.the-laws 𝓤 H A W .typed r _ is .0)) $ rewrite ! 16 (λ (u : Val). ‵ (fat fullShare SteppedL.mir l₅ 0 u)) (ap only (LL.tells SteppedT.the-type SteppedL.the-laws r _ is)) refl $ assigns ! (of-opd ! (load ! (from ! (fld ! refl (stop !))) (look-in ! 16 (sub ! 2 refl (whole !))))) (from ! (hop ! (look ! 24 refl) (stop !))) (store-raw ! 6 refl (LL.lawful SplitQueueT.the-type SplitQueueL.the-laws 𝓤 H A W .typed (r .queue) _ (queue-new r w is) .0)) $ assigns ! (agg ! (and-then ! (load ! (from ! (fld ! refl (stop !))) (look-in ! 16 (sub ! 0 refl (whole !)))) (and-then ! (load ! (from ! (fld ! refl (stop !))) (look-in ! 16 (sub ! 1 refl (whole !)))) (no-more !)))) (from ! (stop !)) (init ! 26 refl (LL.lawful AdvancedT.the-type AdvancedL.the-laws 𝓤 H A W .typed (told r) _ (told-is r w is) .0)) $
+        land ! (from ! (stop !)) (init ! 16 refl (LL.lawful SteppedT.the-type SteppedL.the-laws 𝓤 H A W .typed r _ is .0)) $
+        rewrite ! 16 (λ (u : Val). ‵ (fat fullShare SteppedL.mir l₅ 0 u)) (ap only (LL.tells SteppedT.the-type SteppedL.the-laws r _ is)) refl $
+        assigns ! (of-opd ! (load ! (from ! (fld ! refl (stop !))) (look-in ! 16 (sub ! 2 refl (whole !))))) (from ! (hop ! (look ! 24 refl) (stop !))) (store-raw ! 6 refl (LL.lawful SplitQueueT.the-type SplitQueueL.the-laws 𝓤 H A W .typed (r .queue) _ (queue-new r w is) .0)) $
+        assigns ! (agg ! (and-then ! (load ! (from ! (fld ! refl (stop !))) (look-in ! 16 (sub ! 0 refl (whole !)))) (and-then ! (load ! (from ! (fld ! refl (stop !))) (look-in ! 16 (sub ! 1 refl (whole !)))) (no-more !))))
+        (from ! (stop !)) (init ! 26 refl (LL.lawful AdvancedT.the-type AdvancedL.the-laws 𝓤 H A W .typed (told r) _ (told-is r w is) .0)) $
         -- each borrow is closed at what was stored
-        owned ! SplitQueueT.the-row (Is SplitQueueT.the-row) (LL.makes SplitQueueT.the-type SplitQueueL.the-plain 𝓤 H A) (r .queue) _ (queue-new r w is) $ move ! (7 ∷ 0 ∷ 8 ∷ 9 ∷ 10 ∷ []) $ closes ! tt SplitQueueT.the-row (r .queue) (LL.val SplitQueueT.the-type SplitQueueL.the-laws (r .queue) ∷ []) b-queue o-queue $ returns ! (look ! 25 refl) $ forget ! 9 refl $ forget ! 11 refl $ forget ! 13 refl $ forget ! 15 refl $ forget ! 17 refl $ forget ! 19 refl $ forget ! 21 refl $ forget ! 23 refl $ forget ! 25 refl $ move ! (25 ∷ 26 ∷ []) $ free1 ! $ move ! (23 ∷ 24 ∷ []) $ free1 ! $ move ! (21 ∷ 22 ∷ []) $ free1 ! $ move ! (19 ∷ 20 ∷ []) $ free1 ! $ move ! (17 ∷ 18 ∷ []) $ free1 ! $ move ! (15 ∷ 16 ∷ []) $ free1 ! $ move ! (13 ∷ 14 ∷ []) $ free1 ! $ move ! (11 ∷ 12 ∷ []) $ free1 ! $ move ! (9 ∷ 10 ∷ []) $ free1 ! $ free0 ! $ keep ! (0 ∷ 1 ∷ 2 ∷ 3 ∷ 5 ∷ 6 ∷ 8 ∷ []) $ by ! (exits r w (zs .1 .1 .1 .0) is e l))))))))))))))))))
+        owned ! SplitQueueT.the-row (Is SplitQueueT.the-row) (LL.makes SplitQueueT.the-type SplitQueueL.the-plain 𝓤 H A) (r .queue) _ (queue-new r w is) $
+        move ! (7 ∷ 0 ∷ 8 ∷ 9 ∷ 10 ∷ []) $ closes ! tt SplitQueueT.the-row (r .queue) (LL.val SplitQueueT.the-type SplitQueueL.the-laws (r .queue) ∷ []) b-queue o-queue $
+        returns ! (look ! 25 refl) $ forget ! 9 refl $ forget ! 11 refl $ forget ! 13 refl $ forget ! 15 refl $ forget ! 17 refl $ forget ! 19 refl $ forget ! 21 refl $ forget ! 23 refl $ forget ! 25 refl $
+        move ! (25 ∷ 26 ∷ []) $ free1 ! $ move ! (23 ∷ 24 ∷ []) $ free1 ! $ move ! (21 ∷ 22 ∷ []) $ free1 ! $ move ! (19 ∷ 20 ∷ []) $ free1 ! $
+        move ! (17 ∷ 18 ∷ []) $ free1 ! $ move ! (15 ∷ 16 ∷ []) $ free1 ! $ move ! (13 ∷ 14 ∷ []) $ free1 ! $ move ! (11 ∷ 12 ∷ []) $ free1 ! $ move ! (9 ∷ 10 ∷ []) $ free1 ! $ free0 ! $
+        keep ! (0 ∷ 1 ∷ 2 ∷ 3 ∷ 5 ∷ 6 ∷ 8 ∷ []) $ by ! (exits r w (zs .1 .1 .1 .0) is e l))))))))))))))))))
 
 module _ {M : Type 1} (𝓤 : URA M) (H : Heap 𝓤) (A : Atoms 𝓤) (W : Given 𝓤 H A) (at-mem : Memory → SProp 𝓤) (run : Routine → Fun 𝓤) where
   thin-walks : (C : Calls 𝓤 H) (Λ : Loops 𝓤 H) → FmC 𝓤 H (W .laws) C → Triple 𝓤 (C #callee) (Callee 𝓤 H A at-mem run) → Walks 𝓤 H A thin.ended stayed (WpFn 𝓤 H C Λ code.function) (thin.clauses 𝓤 H A at-mem run)

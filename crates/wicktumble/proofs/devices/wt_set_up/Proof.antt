@@ -5,10 +5,10 @@ use mathlib.Core.Bool.{_&&_}
 use borrow.Author.Tests.{eqb-true}
 use lib.ListN.{length}
 use Rattle.map_check.proofs.Bools.{and-fst, and-snd}
-use Rattle.sheet.specs.Sheet.{isMap}
-use Rattle.device_words.specs.Words.{isDevice}
-use Rattle.memory_device.specs.Record.{Outcome}
-use Rattle.memory_device.specs.Lent.{leaves}
+use Rattle.map_records.specs.Limits.{isMap}
+use Rattle.device_words.specs.Words.{isDevice, deviceLength}
+use Rattle.memory_device.specs.Record.{HostOutcome}
+use Rattle.memory_device.specs.Lent.{wordsLeft}
 use Rattle.wicktumble.specs.Result.{isResult}
 use Rattle.wicktumble.specs.Devices.{setUpCall}
 use Rattle.wicktumble.proofs.CallLaws.{taken, refused, result-fits, unmade-as, reply-made}
@@ -20,7 +20,7 @@ put-fresh-requires c κs =
     let s = c .before .before in
     let a = s .before .before .before .before .args in
     let fit = and-snd (isMap (a .map .now)) (isDevice (a .device .now) && isResult (a .result .now)) (s .if1 .taken) in
-    eqb-true (length (a .device .now)) 37 (and-fst (isDevice (a .device .now)) (isResult (a .result .now)) fit)
+    eqb-true (length (a .device .now)) deviceLength (and-fst (isDevice (a .device .now)) (isResult (a .result .now)) fit)
 
 tell-requires : tie.Need-tell-requires
 tell-requires c κs =
@@ -34,7 +34,7 @@ returns c =
     let s = c .before .before .before .before .before .before .before in
     let e = s .before .before .set-up .ensures in
     let w = s .before .before .before .before .before .before .before .args .device .now in
-    reply-made (s .put-fresh .ensures ∙ ap (λ (o : Outcome). leaves (o .reply) (o .device) w) e) (c .before .before .tell .ensures) (c .before .before .before .say-set-up .ensures) (ap (λ (o : Outcome). o .reply) e) (taken _ _ (s .before .before .before .if1 .taken))
+    reply-made (s .put-fresh .ensures ∙ ap (λ (o : HostOutcome). wordsLeft (o .reply) (o .device) w) e) (c .before .before .tell .ensures) (c .before .before .before .say-set-up .ensures) (ap (λ (o : HostOutcome). o .reply) e) (taken _ _ (s .before .before .before .if1 .taken))
 
 returns-2 : tie.Need-returns-2
 unfolding setUpCall

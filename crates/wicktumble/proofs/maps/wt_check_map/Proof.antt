@@ -1,7 +1,7 @@
 -- `wicktumble::maps::wt_check_map` meets its contract. Assumes nothing.
 use borrow.Author.Needs.{needs}
 use Rattle.wicktumble.specs.Maps.{checkCall}
-use Rattle.sheet.specs.Sheet.{isMap}
+use Rattle.map_records.specs.Limits.{isMap}
 use Rattle.wicktumble.proofs.CallLaws.{taken, refused, result-fits, untold-as, reply-told}
 use Rattle.wicktumble.proofs.maps.wt_check_map.Statement.{statement}
 use Rattle.wicktumble.proofs.maps.wt_check_map.Tie as tie

@@ -2,9 +2,8 @@
 use borrow.Author.Needs.{needs}
 use mathlib.Core.Bool.{_&&_}
 use Rattle.wicktumble.specs.Maps.{flattenCall}
-use Rattle.region_map.specs.Flatten.{isView}
+use Rattle.map_records.specs.Limits.{isView, isMap}
 use Rattle.map_check.proofs.Bools.{and-snd}
-use Rattle.sheet.specs.Sheet.{isMap}
 use Rattle.wicktumble.specs.Result.{isResult}
 use Rattle.wicktumble.proofs.CallLaws.{taken, refused, result-fits, unmade-as, reply-made}
 use Rattle.wicktumble.proofs.maps.wt_flatten.Statement.{statement}

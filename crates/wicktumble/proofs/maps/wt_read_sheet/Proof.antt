@@ -1,7 +1,7 @@
 -- `wicktumble::maps::wt_read_sheet` meets its contract. Assumes nothing.
 use borrow.Author.Needs.{needs}
 use Rattle.wicktumble.specs.Maps.{readCall}
-use Rattle.sheet.specs.Sheet.{isMap}
+use Rattle.map_records.specs.Limits.{isMap}
 use Rattle.wicktumble.proofs.CallLaws.{taken, refused, result-fits, unmade-as, reply-made}
 use Rattle.wicktumble.proofs.maps.wt_read_sheet.Statement.{statement}
 use Rattle.wicktumble.proofs.maps.wt_read_sheet.Tie as tie

@@ -1,8 +1,8 @@
 -- `wicktumble::maps::wt_walk` meets its contract. Assumes nothing.
 use borrow.Author.Needs.{needs}
 use mathlib.Core.Path.{ap, _∙_}
-use Rattle.wicktumble.specs.Maps.{ledTo, walkCall}
-use Rattle.sheet.specs.Sheet.{isMap}
+use Rattle.wicktumble.specs.Maps.{walkResult, walkCall}
+use Rattle.map_records.specs.Limits.{isMap}
 use Rattle.wicktumble.proofs.CallLaws.{taken, refused, result-fits, untold-as, told-as}
 use Rattle.wicktumble.proofs.maps.wt_walk.Statement.{statement}
 use Rattle.wicktumble.proofs.maps.wt_walk.Tie as tie
@@ -14,7 +14,7 @@ returns : tie.Need-returns
 unfolding walkCall
 returns c =
     let s = c .before .before in
-    told-as (s .tell .ensures) (s .before .say-walk .ensures ∙ ap ledTo (s .before .before .before .resolve-address .ensures) ∙ taken _ _ (s .before .before .before .before .if1 .taken))
+    told-as (s .tell .ensures) (s .before .say-walk .ensures ∙ ap walkResult (s .before .before .before .resolve-address .ensures) ∙ taken _ _ (s .before .before .before .before .if1 .taken))
 
 returns-2 : tie.Need-returns-2
 unfolding walkCall

@@ -16,5 +16,5 @@ returns-3 c = rw (c .before .before .answer3 .given .1) (says (c .say3 .ensures)
 pub say-route-spec : {M : Type 1} → statement M
 say-route-spec =
     tie.close
-    (tie.spec (λ c. search needs) (λ c. search needs) (λ c κs. search needs) (λ c. search needs) (λ c κs. search needs)
+    (tie.spec (λ c. search needs) (λ c κs. search needs) (λ c. search needs) (λ c κs. search needs)
     (λ c. search needs) (λ c κs. search needs) returns returns-2 returns-3)

@@ -1,8 +1,8 @@
 -- `wicktumble::routes::wt_look_up` meets its contract. Assumes nothing.
 use borrow.Author.Needs.{needs}
 use mathlib.Core.Path.{ap, _∙_}
-use Rattle.region_map.specs.Flatten.{isView}
-use Rattle.wicktumble.specs.Maps.{ledTo}
+use Rattle.map_records.specs.Limits.{isView}
+use Rattle.wicktumble.specs.Maps.{walkResult}
 use Rattle.wicktumble.specs.Routes.{lookUpCall}
 use Rattle.wicktumble.proofs.CallLaws.{taken, refused, result-fits, untold-as, told-as}
 use Rattle.wicktumble.proofs.routes.wt_look_up.Statement.{statement}
@@ -18,7 +18,7 @@ returns : tie.Need-returns
 unfolding lookUpCall
 returns c =
     let s = c .before .before in
-    told-as (s .tell .ensures) (s .before .say-look-up .ensures ∙ ap ledTo (s .before .before .before .look-up .ensures) ∙ taken _ _ (s .before .before .before .before .if1 .taken))
+    told-as (s .tell .ensures) (s .before .say-look-up .ensures ∙ ap walkResult (s .before .before .before .look-up .ensures) ∙ taken _ _ (s .before .before .before .before .if1 .taken))
 
 returns-2 : tie.Need-returns-2
 unfolding lookUpCall

@@ -2,11 +2,11 @@
 use borrow.Author.Needs.{needs}
 use mathlib.Core.Path.{ap, _∙_}
 use mathlib.Core.Bool.{_&&_, _||_}
-use Rattle.region_map.specs.Flatten.{isView}
+use Rattle.map_records.specs.Limits.{isView}
 use Rattle.map_check.proofs.Bools.{and-snd}
 use Rattle.device_words.specs.Words.{isDevice}
 use Rattle.wicktumble.specs.Result.{isResult}
-use Rattle.wicktumble.specs.Routes.{isNone, routeTold, routeCall}
+use Rattle.wicktumble.specs.Routes.{isNone, routeResult, routeCall}
 use Rattle.wicktumble.proofs.CallLaws.{taken, refused, result-fits, untold-as, told-as}
 use Rattle.wicktumble.proofs.routes.wt_route.Statement.{statement}
 use Rattle.wicktumble.proofs.routes.wt_route.Tie as tie
@@ -22,7 +22,7 @@ returns : tie.Need-returns
 unfolding routeCall
 returns c =
     let s = c .before .before in
-    told-as (s .tell .ensures) (s .before .say-route .ensures ∙ ap routeTold (s .before .before .before .route-by .ensures) ∙ taken _ _ (s .before .before .before .before .if1 .taken))
+    told-as (s .tell .ensures) (s .before .say-route .ensures ∙ ap routeResult (s .before .before .before .route-by .ensures) ∙ taken _ _ (s .before .before .before .before .if1 .taken))
 
 returns-2 : tie.Need-returns-2
 unfolding routeCall

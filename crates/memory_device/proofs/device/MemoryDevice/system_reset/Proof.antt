@@ -2,14 +2,14 @@
 use Rattle.memory_device.specs.Record.{recordOf}
 use mathlib.Core.Bool.{false}
 use Rattle.device_words.specs.Device.{MemoryDevice, fresh}
-use Rattle.memory_device.specs.Host.{wasReset}
+use Rattle.memory_device.specs.Host.{systemReset}
 use Rattle.memory_device.proofs.LentLaws.{by-value, whole-fresh}
 use borrow.Author.Needs.{needs}
 use Rattle.memory_device.proofs.device.MemoryDevice.system_reset.Statement.{statement}
 use Rattle.memory_device.proofs.device.MemoryDevice.system_reset.Tie as tie
 
 returns : tie.Need-returns
-unfolding wasReset
+unfolding systemReset
 returns c = let a = c .before .before .before .before .before .before .args in
     by-value (recordOf (a .self)) (c .before .before .before .before .before .words-of .result) _ _ _ (c .before .before .before .before .before .words-of .ensures .1) (c .device-of .ensures)
     (λ (d : MemoryDevice). false) 14 (λ (d : MemoryDevice). fresh d) (whole-fresh (recordOf (a .self))) (c .before .before .before .system-reset .ensures)
