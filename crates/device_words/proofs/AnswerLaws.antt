@@ -1,23 +1,26 @@
 -- Laws of the answers to requests. Assumes nothing.
-use mathlib.Core.Path.{_≡_, refl, sym, ap, _∙_}
-use mathlib.Core.Bool.{Bool, true, false, cond, _&&_, not}
+use mathlib.Core.Path.{_≡_, refl, sym, ap, _∙_, subst}
+use mathlib.Core.Bool.{Bool, true, false, cond, _&&_, _||_}
 use mathlib.Core.List.{List}
 use Prim.Native.Nat.{ℕ, _+_, _-_, _*_, _%_, _≤_, _<_}
 use native.Mathlib.Omega.{arith}
 use native.Mathlib.Nat.{mul-le-mul, le-of-mul-le-mul-right, add-mul, div-mul-le-self}
-use lib.Dec.{eqb, leb, ltb}
-use borrow.Author.Tests.{le-leb, lt-leb, leb-true, eqb-true, eqb-false, eq-eqb, ne-eqb}
-use Rattle.device_words.specs.Table.{bitAt, within, tableOf, heldIn}
-use Rattle.device_words.specs.Device.{noBlocks, withPlugged}
-use Rattle.device_words.specs.Request.{blockOf, inRange, plugAnswer, unplugAnswer, unplugAllAnswer, heldOf, stateAnswer, answered, withRun, isAck, tableAfterAck, changedBy}
-use Rattle.device_words.specs.Contracts.{Sized, FirstBlock}
+use lib.Dec.{eqb, leb}
+use lib.ListN.{length}
+use borrow.Author.Tests.{le-leb, lt-leb, leb-true, leb-false, eqb-true, eqb-false, eq-eqb, ne-eqb}
+use Rattle.device_words.specs.Table.{bitAt, within, turned, heldIn}
+use Rattle.device_words.specs.Device.{anyPinned, noPlugs, sizesOf}
+use Rattle.device_words.specs.Request.{blockOf, inRange, ranged, plugAnswer, unplugAnswer, unplugAllAnswer, stateAnswer, nothingFurther, answeredBy, withRun, isAck, tableAfterAck, tableBy, askedFrom, pinMet}
+use Rattle.device_words.specs.Contracts.{Sized, answerable, RunOf, unplugs}
+use Rattle.device_words.specs.declared.words.Sizes.{Sizes}
 use Rattle.device_words.specs.declared.request.Response.{Response}
 use Rattle.device_words.specs.declared.request.Response.the-variants as response
 use Rattle.device_words.specs.Device.{MemoryDevice}
 use Rattle.device_words.specs.declared.request.Request.{Request}
 use Rattle.map_records.proofs.NumberLaws.{sum-within}
-use Rattle.device_words.proofs.WordLaws.{any-held, any-free}
-use Rattle.map_check.proofs.Bools.{never, and-fst, and-snd, and-off}
+use Rattle.device_words.proofs.TableLaws.{table-length}
+use Rattle.device_words.proofs.WordLaws.{cleared}
+use Rattle.map_check.proofs.Bools.{never, or-left, or-right, and-fst, and-snd, and-off}
 
 -- the range rule where the address is below the region, where the offset alone is past the usable part, and else
 module _ (x : Bool) (low address : ℕ) (u size : ℕ) where
@@ -39,46 +42,46 @@ module _ (x : Bool) (low address : ℕ) (u size : ℕ) where
 pub size-bound : (n b : ℕ) → n ≤ 65535 → b ≤ 1073741824 → n * b ≤ 70367670435840
 size-bound n b h k = mul-le-mul h k
 
-module _ (d : MemoryDevice) (r : Request) where
+module _ (d : Sizes) (r : Request) where
   ahead : Bool
   ahead = eqb (r .addr .0 % d .«block_size») 0 && leb 1 (r .blocks)
 
-  pub in-low : r .addr .0 < d .addr → false ≡ inRange d r
+  pub in-low : r .addr .0 < d .addr .0 → false ≡ inRange d r
   unfolding ahead
-  in-low h = range-low ahead (d .addr) (r .addr .0) (d .«usable_size») (r .blocks * d .«block_size») h
+  in-low h = range-low ahead (d .addr .0) (r .addr .0) (d .«usable_size») (r .blocks * d .«block_size») h
 
-  pub in-past : d .«usable_size» < r .addr .0 - d .addr → false ≡ inRange d r
+  pub in-past : d .«usable_size» < r .addr .0 - d .addr .0 → false ≡ inRange d r
   unfolding ahead
-  in-past h = range-past ahead (d .addr) (r .addr .0) (d .«usable_size») (r .blocks * d .«block_size») h
+  in-past h = range-past ahead (d .addr .0) (r .addr .0) (d .«usable_size») (r .blocks * d .«block_size») h
 
-  pub in-test : d .addr ≤ r .addr .0 → r .addr .0 - d .addr ≤ d .«usable_size»
-      → (eqb (r .addr .0 % d .«block_size») 0 && leb 1 (r .blocks) && leb (r .blocks * d .«block_size») (d .«usable_size» - (r .addr .0 - d .addr))) ≡ inRange d r
+  pub in-test : d .addr .0 ≤ r .addr .0 → r .addr .0 - d .addr .0 ≤ d .«usable_size»
+      → (eqb (r .addr .0 % d .«block_size») 0 && leb 1 (r .blocks) && leb (r .blocks * d .«block_size») (d .«usable_size» - (r .addr .0 - d .addr .0))) ≡ inRange d r
   unfolding ahead
-  in-test h k = range-test ahead (d .addr) (r .addr .0) (d .«usable_size») (r .blocks * d .«block_size») h k
+  in-test h k = range-test ahead (d .addr .0) (r .addr .0) (d .«usable_size») (r .blocks * d .«block_size») h k
 
 -- the blocks up to the usable part's end are in the table
-pub blocks-fit : (d : MemoryDevice) (a n : ℕ) → Sized d → a - d .addr + n * d .«block_size» ≤ d .«usable_size» → blockOf d a + n ≤ 1024
+pub blocks-fit : (d : Sizes) (a n : ℕ) → Sized d → a - d .addr .0 + n * d .«block_size» ≤ d .«usable_size» → blockOf d a + n ≤ 1024
 blocks-fit d a n z h =
     let b = d .«block_size» in
     let k = blockOf d a in
-    le-of-mul-le-mul-right (omega (arith, add-mul k n b, div-mul-le-self (a - d .addr) b, h, z .room)) (z .some)
+    le-of-mul-le-mul-right (omega (arith, add-mul k n b, div-mul-le-self (a - d .addr .0) b, h, z .room)) (z .some)
 
 -- the four parts of the range rule
-module _ (d : MemoryDevice) (r : Request) where
-  pub in-of : r .addr .0 % d .«block_size» ≡ 0 → 1 ≤ r .blocks → d .addr ≤ r .addr .0 → r .addr .0 - d .addr + r .blocks * d .«block_size» ≤ d .«usable_size» → inRange d r ≡ true
+module _ (d : Sizes) (r : Request) where
+  pub in-of : r .addr .0 % d .«block_size» ≡ 0 → 1 ≤ r .blocks → d .addr .0 ≤ r .addr .0 → r .addr .0 - d .addr .0 + r .blocks * d .«block_size» ≤ d .«usable_size» → inRange d r ≡ true
   in-of aligned some above room =
       rw (
         eq-eqb (r .addr .0 % d .«block_size») 0 aligned,
         le-leb 1 (r .blocks) some,
-        le-leb (d .addr) (r .addr .0) above,
-        le-leb (r .addr .0 - d .addr + r .blocks * d .«block_size») (d .«usable_size») room,
+        le-leb (d .addr .0) (r .addr .0) above,
+        le-leb (r .addr .0 - d .addr .0 + r .blocks * d .«block_size») (d .«usable_size») room,
       )
 
   module _ (h : inRange d r ≡ true) where
-    in-parts : (eqb (r .addr .0 % d .«block_size») 0 ≡ true) × (leb 1 (r .blocks) ≡ true) × (leb (d .addr) (r .addr .0) ≡ true)
-        × (leb (r .addr .0 - d .addr + r .blocks * d .«block_size») (d .«usable_size») ≡ true)
+    in-parts : (eqb (r .addr .0 % d .«block_size») 0 ≡ true) × (leb 1 (r .blocks) ≡ true) × (leb (d .addr .0) (r .addr .0) ≡ true)
+        × (leb (r .addr .0 - d .addr .0 + r .blocks * d .«block_size») (d .«usable_size») ≡ true)
     in-parts =
-        four (eqb (r .addr .0 % d .«block_size») 0) (leb 1 (r .blocks)) (leb (d .addr) (r .addr .0)) (leb (r .addr .0 - d .addr + r .blocks * d .«block_size») (d .«usable_size»)) h
+        four (eqb (r .addr .0 % d .«block_size») 0) (leb 1 (r .blocks)) (leb (d .addr .0) (r .addr .0)) (leb (r .addr .0 - d .addr .0 + r .blocks * d .«block_size») (d .«usable_size»)) h
       where
         four : (w x y z : Bool) → (w && x && y && z) ≡ true → (w ≡ true) × (x ≡ true) × (y ≡ true) × (z ≡ true)
         four w x y z e =
@@ -92,41 +95,77 @@ module _ (d : MemoryDevice) (r : Request) where
     pub in-some : 1 ≤ r .blocks
     in-some = leb-true 1 (r .blocks) (in-parts .1)
 
-    pub in-above : d .addr ≤ r .addr .0
-    in-above = leb-true (d .addr) (r .addr .0) (in-parts .2)
+    pub in-above : d .addr .0 ≤ r .addr .0
+    in-above = leb-true (d .addr .0) (r .addr .0) (in-parts .2)
 
-    pub in-end : r .addr .0 - d .addr + r .blocks * d .«block_size» ≤ d .«usable_size»
-    in-end = leb-true (r .addr .0 - d .addr + r .blocks * d .«block_size») (d .«usable_size») (in-parts .3)
+    pub in-end : r .addr .0 - d .addr .0 + r .blocks * d .«block_size» ≤ d .«usable_size»
+    in-end = leb-true (r .addr .0 - d .addr .0 + r .blocks * d .«block_size») (d .«usable_size») (in-parts .3)
 
 -- a request in range has its blocks in the table
-module _ (d : MemoryDevice) (r : Request) (z : Sized d) (h : inRange d r ≡ true) where
+module _ (d : Sizes) (r : Request) (z : Sized d) (h : inRange d r ≡ true) where
   in-blocks : blockOf d (r .addr .0) + r .blocks ≤ 1024
   in-blocks = blocks-fit d (r .addr .0) (r .blocks) z (in-end d r h)
 
-  pub in-facts : (0 < d .«block_size») × (d .addr ≤ r .addr .0) × (blockOf d (r .addr .0) < 1024)
+  pub in-facts : (0 < d .«block_size») × (d .addr .0 ≤ r .addr .0) × (blockOf d (r .addr .0) < 1024)
   in-facts = (z .some, in-above d r h, omega (arith, in-blocks, in-some d r h))
 
-  pub in-run : (from : ℕ) → from ≡ blockOf d (r .addr .0) → FirstBlock d r from
-  in-run from e = record { first = e; room = omega (arith, in-blocks) }
+  pub in-run : (from : ℕ) → (r .kind ≡ 2 → ⊥) → r .kind ≤ 3 → from ≡ blockOf d (r .addr .0) → RunOf d r from (r .blocks)
+  in-run from n k e =
+      record {
+        answers = rw (ne-eqb (r .kind) 2 n, le-leb (r .kind) 3 k) h;
+        first = rw (ne-eqb (r .kind) 2 n) e;
+        count = rw (ne-eqb (r .kind) 2 n);
+        room = omega (arith, in-blocks, e);
+      }
 
--- the answer by the request's type
-module _ (d : MemoryDevice) (r : Request) where
-  pub all-answer : r .kind ≡ 2 → unplugAllAnswer d ≡ answered d r
-  unfolding answered
+-- a request of a type past STATE, or out of range, may ask for no block; an UNPLUG ALL asks for all
+module _ (d : Sizes) (r : Request) where
+  pub past-state : 3 < r .kind → answerable d r ≡ false
+  past-state h = rw (ne-eqb (r .kind) 2 (λ (e : r .kind ≡ 2). omega arith), lt-leb (r .kind) 3 h)
+
+  pub out-of-range : (r .kind ≡ 2 → ⊥) → inRange d r ≡ false → answerable d r ≡ false
+  out-of-range n h = subst (λ (x : Bool). (eqb (r .kind) 2 || (leb (r .kind) 3 && x)) ≡ false) (sym h) (rw (ne-eqb (r .kind) 2 n) (and-off (leb (r .kind) 3)))
+
+  pub all-run : r .kind ≡ 2 → RunOf d r 0 1024
+  all-run e = record { answers = rw (eq-eqb (r .kind) 2 e); first = rw (eq-eqb (r .kind) 2 e); count = rw (eq-eqb (r .kind) 2 e); room = omega arith }
+
+  -- the run of a request of another type is in range, and begins at its address's block
+  module _ {b n : ℕ} (f : RunOf d r b n) (other : r .kind ≡ 2 → ⊥) where
+    parts : (leb (r .kind) 3 && inRange d r) ≡ true
+    parts = let h : (eqb (r .kind) 2 || (leb (r .kind) 3 && inRange d r)) ≡ true = f .answers in rw (ne-eqb (r .kind) 2 other) at h
+
+    pub run-range : inRange d r ≡ true
+    run-range = and-snd (leb (r .kind) 3) (inRange d r) parts
+
+    pub run-type : r .kind ≤ 3
+    run-type = leb-true (r .kind) 3 (and-fst (leb (r .kind) 3) (inRange d r) parts)
+
+    pub run-first : b ≡ blockOf d (r .addr .0)
+    run-first = let e : b ≡ cond (eqb (r .kind) 2) 0 (blockOf d (r .addr .0)) = f .first in rw (ne-eqb (r .kind) 2 other) at e
+
+    pub run-count : n ≡ r .blocks
+    run-count = let e : n ≡ cond (eqb (r .kind) 2) 1024 (r .blocks) = f .count in rw (ne-eqb (r .kind) 2 other) at e
+
+-- the answer by the request's type, for any table, pins and further question of a PLUG
+module _ (further : Request → Response) (s : Sizes) (held : Bool) (t : List ℕ) (r : Request) where
+  pub all-answer : r .kind ≡ 2 → unplugAllAnswer held ≡ answeredBy further s held t r
+  unfolding answeredBy
   all-answer e = rw e
 
-  pub other-answer : 3 < r .kind → response.Error ≡ answered d r
-  unfolding answered
-  other-answer h =
-      rw (
-        ne-eqb (r .kind) 0 (λ (e : r .kind ≡ 0). omega arith),
-        ne-eqb (r .kind) 1 (λ (e : r .kind ≡ 1). omega arith),
-        ne-eqb (r .kind) 2 (λ (e : r .kind ≡ 2). omega arith),
-        ne-eqb (r .kind) 3 (λ (e : r .kind ≡ 3). omega arith),
-      )
+  pub plug-answer : r .kind ≡ 0 → inRange s r ≡ true → plugAnswer (further r) s t (blockOf s (r .addr .0)) (r .blocks) ≡ answeredBy further s held t r
+  unfolding answeredBy
+  plug-answer e h = rw (e, h)
 
-  pub out-answer : (r .kind ≡ 2 → ⊥) → inRange d r ≡ false → response.Error ≡ answered d r
-  unfolding answered
+  pub unplug-answer : r .kind ≡ 1 → inRange s r ≡ true → unplugAnswer held t (blockOf s (r .addr .0)) (r .blocks) ≡ answeredBy further s held t r
+  unfolding answeredBy
+  unplug-answer e h = rw (e, h)
+
+  pub state-answer : r .kind ≡ 3 → inRange s r ≡ true → stateAnswer t (blockOf s (r .addr .0)) (r .blocks) ≡ answeredBy further s held t r
+  unfolding answeredBy
+  state-answer e h = rw (e, h)
+
+  pub out-answer : (r .kind ≡ 2 → ⊥) → inRange s r ≡ false → response.Error ≡ answeredBy further s held t r
+  unfolding answeredBy
   out-answer n h = rw (h, ne-eqb (r .kind) 2 n) (go (eqb (r .kind) 0) (eqb (r .kind) 1) (eqb (r .kind) 3))
     where
       go : (x y z : Bool) → response.Error ≡ cond x response.Error (cond y response.Error (cond z response.Error response.Error))
@@ -135,79 +174,146 @@ module _ (d : MemoryDevice) (r : Request) where
       go false false true = refl
       go false false false = refl
 
-  pub plug-answer : r .kind ≡ 0 → inRange d r ≡ true → plugAnswer d r ≡ answered d r
-  unfolding answered
-  plug-answer e h = rw (e, h)
+  pub unanswerable : answerable s r ≡ false → response.Error ≡ answeredBy further s held t r
+  unfolding answeredBy
+  unanswerable h =
+      let n = eqb-false (r .kind) 2 (or-left (eqb (r .kind) 2) (leb (r .kind) 3 && inRange s r) h) in
+      go n (leb (r .kind) 3) refl (or-right (eqb (r .kind) 2) (leb (r .kind) 3 && inRange s r) h)
+    where
+      go : (r .kind ≡ 2 → ⊥) → (x : Bool) → leb (r .kind) 3 ≡ x → (x && inRange s r) ≡ false → response.Error ≡ answeredBy further s held t r
+      go n true e i = out-answer n i
+      go n false e i =
+          let l = leb-false (r .kind) 3 e in
+          rw (
+            ne-eqb (r .kind) 0 (λ (z : r .kind ≡ 0). omega arith),
+            ne-eqb (r .kind) 1 (λ (z : r .kind ≡ 1). omega arith),
+            ne-eqb (r .kind) 2 n,
+            ne-eqb (r .kind) 3 (λ (z : r .kind ≡ 3). omega arith),
+          )
 
-  pub unplug-answer : r .kind ≡ 1 → inRange d r ≡ true → unplugAnswer d r ≡ answered d r
-  unfolding answered
-  unplug-answer e h = rw (e, h)
+-- the same by the run that was found
+module _ (s : Sizes) (held : Bool) (t : List ℕ) (r : Request) {b n : ℕ} (f : RunOf s r b n) where
+  at-run : (g : ℕ → ℕ → Response) → (r .kind ≡ 2 → ⊥) → g b n ≡ g (blockOf s (r .addr .0)) (r .blocks)
+  at-run g o = ap (λ (x : ℕ). g x n) (run-first s r f o) ∙ ap (g (blockOf s (r .addr .0))) (run-count s r f o)
 
-  pub state-answer : r .kind ≡ 3 → inRange d r ≡ true → stateAnswer d r ≡ answered d r
-  unfolding answered
-  state-answer e h = rw (e, h)
+  pub plug-run : r .kind ≡ 0 → plugAnswer response.Ack s t b n ≡ answeredBy nothingFurther s held t r
+  plug-run e = let o : r .kind ≡ 2 → ⊥ = λ z. omega arith in at-run (plugAnswer response.Ack s t) o ∙ plug-answer nothingFurther s held t r e (run-range s r f o)
+
+  pub unplug-run : r .kind ≡ 1 → unplugAnswer held t b n ≡ answeredBy nothingFurther s held t r
+  unplug-run e = let o : r .kind ≡ 2 → ⊥ = λ z. omega arith in at-run (unplugAnswer held t) o ∙ unplug-answer nothingFurther s held t r e (run-range s r f o)
+
+  pub state-run : r .kind ≡ 3 → stateAnswer t b n ≡ answeredBy nothingFurther s held t r
+  state-run e = let o : r .kind ≡ 2 → ⊥ = λ z. omega arith in at-run (stateAnswer t) o ∙ state-answer nothingFurther s held t r e (run-range s r f o)
 
 -- what an acknowledgement says of the request
 ack-error : (x : Bool) (y : Response) → isAck (cond x y response.Error) ≡ true → x ≡ true
 ack-error true y e = refl
 ack-error false y e = e
 
-pub ack-range : (d : MemoryDevice) (r : Request) → isAck (answered d r) ≡ true → (r .kind ≡ 2 → ⊥) → inRange d r ≡ true
-unfolding answered
-ack-range d r h n = go (eqb (r .kind) 0) (eqb (r .kind) 1) (eqb (r .kind) 3) (rw (ne-eqb (r .kind) 2 n) at h)
-  where
-    go : (x y z : Bool)
-        → isAck (cond x (cond (inRange d r) (plugAnswer d r) response.Error) (cond y (cond (inRange d r) (unplugAnswer d r) response.Error) (cond z (cond (inRange d r) (stateAnswer d r) response.Error) response.Error))) ≡ true
-        → inRange d r ≡ true
-    go true y z e = ack-error (inRange d r) (plugAnswer d r) e
-    go false true z e = ack-error (inRange d r) (unplugAnswer d r) e
-    go false false true e = ack-error (inRange d r) (stateAnswer d r) e
-    go false false false e = absurd (never (sym e))
+module _ (further : Request → Response) (s : Sizes) (held : Bool) (t : List ℕ) (r : Request) (h : isAck (answeredBy further s held t r) ≡ true) (n : r .kind ≡ 2 → ⊥) where
+  plugging : Response
+  plugging = plugAnswer (further r) s t (blockOf s (r .addr .0)) (r .blocks)
 
--- an acknowledged request that is no UNPLUG ALL is a PLUG or an UNPLUG
-pub ack-kind : (d : MemoryDevice) (r : Request) → isAck (answered d r) ≡ true → (r .kind ≡ 2 → ⊥) → (r .kind ≡ 0 → ⊥) → r .kind ≡ 1
-unfolding answered
-ack-kind d r h n m = go (eqb (r .kind) 1) refl (eqb (r .kind) 3) (rw (ne-eqb (r .kind) 0 m, ne-eqb (r .kind) 2 n) at h)
-  where
-    states : (x y z : Bool) → isAck (cond x (cond y response.Plugged (cond z response.Unplugged response.Mixed)) response.Error) ≡ true → ⊥
-    states true true z e = never (sym e)
-    states true false true e = never (sym e)
-    states true false false e = never (sym e)
-    states false y z e = never (sym e)
+  unplugging : Response
+  unplugging = unplugAnswer held t (blockOf s (r .addr .0)) (r .blocks)
 
-    go : (x : Bool) → eqb (r .kind) 1 ≡ x → (z : Bool)
-        → isAck (cond x (cond (inRange d r) (unplugAnswer d r) response.Error) (cond z (cond (inRange d r) (stateAnswer d r) response.Error) response.Error)) ≡ true → r .kind ≡ 1
-    go true f z e = eqb-true (r .kind) 1 f
-    go false f true e = absurd (states (inRange d r) (eqb (heldOf d r (d .plugged)) (r .blocks)) (eqb (heldOf d r (d .plugged)) 0) e)
-    go false f false e = absurd (never (sym e))
+  asking : Response
+  asking = stateAnswer t (blockOf s (r .addr .0)) (r .blocks)
+
+  pub ack-range : inRange s r ≡ true
+  unfolding answeredBy plugging unplugging asking
+  ack-range = go (eqb (r .kind) 0) (eqb (r .kind) 1) (eqb (r .kind) 3) (rw (ne-eqb (r .kind) 2 n) at h)
+    where
+      go : (x y z : Bool)
+          → isAck (cond x (cond (inRange s r) plugging response.Error) (cond y (cond (inRange s r) unplugging response.Error) (cond z (cond (inRange s r) asking response.Error) response.Error))) ≡ true
+          → inRange s r ≡ true
+      go true y z e = ack-error (inRange s r) plugging e
+      go false true z e = ack-error (inRange s r) unplugging e
+      go false false true e = ack-error (inRange s r) asking e
+      go false false false e = absurd (never (sym e))
+
+  -- an acknowledged request that is no UNPLUG ALL is a PLUG or an UNPLUG
+  pub ack-kind : (r .kind ≡ 0 → ⊥) → r .kind ≡ 1
+  unfolding answeredBy unplugging asking
+  ack-kind m = go (eqb (r .kind) 1) refl (eqb (r .kind) 3) (rw (ne-eqb (r .kind) 0 m, ne-eqb (r .kind) 2 n) at h)
+    where
+      states : (x y z : Bool) → isAck (cond x (cond y response.Plugged (cond z response.Unplugged response.Mixed)) response.Error) ≡ true → ⊥
+      states true true z e = never (sym e)
+      states true false true e = never (sym e)
+      states true false false e = never (sym e)
+      states false y z e = never (sym e)
+
+      go : (x : Bool) → eqb (r .kind) 1 ≡ x → (z : Bool)
+          → isAck (cond x (cond (inRange s r) unplugging response.Error) (cond z (cond (inRange s r) asking response.Error) response.Error)) ≡ true → r .kind ≡ 1
+      go true f z e = eqb-true (r .kind) 1 f
+      go false f true e = absurd (states (inRange s r) (eqb (heldIn t (blockOf s (r .addr .0)) (r .blocks)) (r .blocks)) (eqb (heldIn t (blockOf s (r .addr .0)) (r .blocks)) 0) e)
+      go false f false e = absurd (never (sym e))
 
 -- the change
-pub change-ack : (d : MemoryDevice) (r : Request) (x : Response) → isAck x ≡ true → withPlugged d (tableAfterAck d r) ≡ changedBy d r x
-unfolding changedBy
-change-ack d r x h = rw h
+pub change-ack : (s : Sizes) (t : List ℕ) (r : Request) (x : Response) → isAck x ≡ true → tableAfterAck s t r ≡ tableBy s t r x
+unfolding tableBy
+change-ack s t r x h = rw h
 
-pub change-none : (d : MemoryDevice) (r : Request) (x : Response) → isAck x ≡ false → d ≡ changedBy d r x
-unfolding changedBy
-change-none d r x h = rw h
+pub change-none : (s : Sizes) (t : List ℕ) (r : Request) (x : Response) → isAck x ≡ false → t ≡ tableBy s t r x
+unfolding tableBy
+change-none s t r x h = rw h
 
-pub table-all : (d : MemoryDevice) (r : Request) → r .kind ≡ 2 → noBlocks ≡ tableAfterAck d r
-table-all d r e = rw e
-
--- PLUG sets the blocks, UNPLUG clears them
-pub table-run : (d : MemoryDevice) (r : Request) (from : ℕ) → from ≡ blockOf d (r .addr .0) → (r .kind ≡ 2 → ⊥) → ((r .kind ≡ 0 → ⊥) → r .kind ≡ 1)
-    → tableOf (λ b. cond (within from (r .blocks) b) (eqb (r .kind) 0) (bitAt (d .plugged) b)) ≡ tableAfterAck d r
-table-run d r from e n f = go (eqb (r .kind) 0) refl
+-- a table of sixteen words stays one
+pub table-whole : (s : Sizes) (t : List ℕ) (r : Request) (x : Response) → length t ≡ 16 → length (tableBy s t r x) ≡ 16
+unfolding tableBy
+table-whole s t r x h = go (isAck x)
   where
-    go : (x : Bool) → eqb (r .kind) 0 ≡ x
-        → tableOf (λ b. cond (within from (r .blocks) b) x (bitAt (d .plugged) b)) ≡ cond x (withRun d r true) (cond (eqb (r .kind) 1) (withRun d r false) (cond (eqb (r .kind) 2) noBlocks (d .plugged)))
-    go true h = ap (λ (k : ℕ). tableOf (λ b. cond (within k (r .blocks) b) true (bitAt (d .plugged) b))) e
-    go false h =
-        rw (eq-eqb (r .kind) 1 (f (eqb-false (r .kind) 0 h))) (ap (λ (k : ℕ). tableOf (λ b. cond (within k (r .blocks) b) false (bitAt (d .plugged) b))) e)
+    ack : (p q z : Bool) → length (cond p (withRun s t r true) (cond q (withRun s t r false) (cond z noPlugs t))) ≡ 16
+    ack true q z = table-length (λ b. cond (within (blockOf s (r .addr .0)) (r .blocks) b) true (bitAt t b))
+    ack false true z = table-length (λ b. cond (within (blockOf s (r .addr .0)) (r .blocks) b) false (bitAt t b))
+    ack false false true = refl
+    ack false false false = h
 
--- a run's test by its first block
-module _ (d : MemoryDevice) (r : Request) (from : ℕ) (e : from ≡ blockOf d (r .addr .0)) (t : List ℕ) (x : Bool) where
-  pub run-some : x ≡ eqb (heldIn t from (r .blocks)) 0 → not x ≡ ltb 0 (heldOf d r t)
-  run-some h = ap not (h ∙ ap (λ (k : ℕ). eqb (heldIn t k (r .blocks)) 0) e) ∙ sym (any-held t (blockOf d (r .addr .0)) (r .blocks))
+    go : (y : Bool) → length (cond y (tableAfterAck s t r) t) ≡ 16
+    go true = ack (eqb (r .kind) 0) (eqb (r .kind) 1) (eqb (r .kind) 2)
+    go false = h
 
-  pub run-free : x ≡ eqb (heldIn t from (r .blocks)) (r .blocks) → not x ≡ ltb (heldOf d r t) (r .blocks)
-  run-free h = ap not (h ∙ ap (λ (k : ℕ). eqb (heldIn t k (r .blocks)) (r .blocks)) e) ∙ sym (any-free t (blockOf d (r .addr .0)) (r .blocks))
+-- PLUG sets the blocks that it asks for, UNPLUG and UNPLUG ALL clear them
+pub table-run : (s : Sizes) (t : List ℕ) (r : Request) (b n : ℕ) → RunOf s r b n → ((r .kind ≡ 2 → ⊥) → (r .kind ≡ 0 → ⊥) → r .kind ≡ 1)
+    → turned t b n (eqb (r .kind) 0) ≡ tableAfterAck s t r
+table-run s t r b n f k = go (eqb (r .kind) 2) refl
+  where
+    run : (r .kind ≡ 2 → ⊥) → (x : Bool) → turned t b n x ≡ withRun s t r x
+    run o x = ap (λ (c : ℕ). turned t c n x) (run-first s r f o) ∙ ap (λ (c : ℕ). turned t (blockOf s (r .addr .0)) c x) (run-count s r f o)
+
+    go : (x : Bool) → eqb (r .kind) 2 ≡ x → turned t b n (eqb (r .kind) 0) ≡ tableAfterAck s t r
+    go true e =
+        let z : r .kind ≡ 2 = eqb-true (r .kind) 2 e in
+        let first : b ≡ 0 = f .first ∙ rw z in
+        let count : n ≡ 1024 = f .count ∙ rw z in
+        rw z (ap (λ (c : ℕ). turned t c n false) first ∙ ap (λ (c : ℕ). turned t 0 c false) count ∙ cleared t)
+    go false e =
+        let o = eqb-false (r .kind) 2 e in
+        by-plug o (eqb (r .kind) 0) refl
+      where
+        by-plug : (r .kind ≡ 2 → ⊥) → (x : Bool) → eqb (r .kind) 0 ≡ x → turned t b n x ≡ cond x (withRun s t r true) (cond (eqb (r .kind) 1) (withRun s t r false) (cond (eqb (r .kind) 2) noPlugs t))
+        by-plug o true p = run o true
+        by-plug o false p = rw (eq-eqb (r .kind) 1 (k o (eqb-false (r .kind) 0 p))) (run o false)
+
+-- what is asked of the pins answers for the device's own, as far as the answer goes
+pub held-as : (d : MemoryDevice) (r : Request) (b n : ℕ) (t : List ℕ) → RunOf (sizesOf d) r b n
+    → answeredBy nothingFurther (sizesOf d) (unplugs (r .kind) && anyPinned d b n) t r ≡ answeredBy nothingFurther (sizesOf d) (pinMet d r) t r
+unfolding answeredBy
+held-as d r b n t f = go (eqb (r .kind) 0) (eqb (r .kind) 1) refl (eqb (r .kind) 2) refl
+  where
+    met : anyPinned d b n ≡ pinMet d r
+    met = ap (λ (x : ℕ). anyPinned d x n) (f .first) ∙ ap (λ (x : ℕ). anyPinned d (askedFrom (sizesOf d) r) x) (f .count)
+
+    plugs : Response
+    plugs = ranged (sizesOf d) r (plugAnswer response.Ack (sizesOf d) t)
+
+    states : Response
+    states = cond (eqb (r .kind) 3) (ranged (sizesOf d) r (stateAnswer t)) response.Error
+
+    go : (x y : Bool) → eqb (r .kind) 1 ≡ y → (z : Bool) → eqb (r .kind) 2 ≡ z
+        → cond x plugs (cond y (ranged (sizesOf d) r (unplugAnswer ((y || z) && anyPinned d b n) t)) (cond z (unplugAllAnswer ((y || z) && anyPinned d b n)) states))
+        ≡ cond x plugs (cond y (ranged (sizesOf d) r (unplugAnswer (pinMet d r) t)) (cond z (unplugAllAnswer (pinMet d r)) states))
+    go true y e z f = refl
+    go false true e z f = ap (λ (x : Bool). ranged (sizesOf d) r (unplugAnswer x t)) met
+    go false false e true f = ap unplugAllAnswer met
+    go false false e false f = refl

@@ -8,10 +8,10 @@ use native.Mathlib.Nat.{div-mul-le-self, le-div-iff-mul-le, add-mul, mul-le-mul-
 use lib.Dec.{eqb, leb, ltb}
 use borrow.Author.Tests.{leb-true, ltb-true, eqb-true, eqb-false}
 use Rattle.map_check.proofs.Bools.{never, and-fst, and-snd}
-use Rattle.device_words.specs.Table.{bitAt, within, tableOf}
-use Rattle.device_words.specs.Device.{MemoryDevice, pinnedIn, isPinned, anyPinned, noBlocks, withPlugged, setupKept, tablesOk, deviceOk}
+use Rattle.device_words.specs.Table.{bitAt, within, tableOf, heldIn}
+use Rattle.device_words.specs.Device.{MemoryDevice, pinnedIn, isPinned, anyPinned, sizesOf, noPlugs, withPlugged, setupKept, tablesOk, deviceOk}
 use Rattle.device_words.specs.Contracts.{Valid}
-use Rattle.device_words.specs.Request.{blockOf, inRange, heldOf, answered, isAck, withRun, tableAfterAck, changedBy}
+use Rattle.device_words.specs.Request.{blockOf, inRange, unplugAnswer, unplugAllAnswer, nothingFurther, pinMet, answered, isAck, withRun, tableAfterAck, tableBy, changedBy}
 use Rattle.device_words.specs.declared.request.Request.{Request}
 use Rattle.device_words.specs.declared.request.Response.the-variants as response
 use Rattle.device_words.proofs.TableLaws.{table-bit, zero-bit}
@@ -85,61 +85,69 @@ unpinned-all true e = absurd (never (sym e))
 unpinned-all false e = refl
 
 -- the blocks of a request in range are usable, and none of them is pinned where no pin was found
-module _ (d : MemoryDevice) (r : Request) (h : deviceOk d ≡ true) (i : inRange d r ≡ true) where
-  run-usable : (b : ℕ) → within (blockOf d (r .addr .0)) (r .blocks) b ≡ true → b < d .«usable_size» / d .«block_size»
+module _ (d : MemoryDevice) (r : Request) (h : deviceOk d ≡ true) (i : inRange (sizesOf d) r ≡ true) where
+  run-usable : (b : ℕ) → within (blockOf (sizesOf d) (r .addr .0)) (r .blocks) b ≡ true → b < d .«usable_size» / d .«block_size»
   run-usable b w =
       let v = device-valid d h in
       let s = d .«block_size» in
-      let k = blockOf d (r .addr .0) in
+      let k = blockOf (sizesOf d) (r .addr .0) in
       let z = inside-run k (r .blocks) b w in
       le-div-iff-mul-le (let p : 0 < s = omega (arith, v .least) in p) .1
-      (omega (arith, mul-le-mul-right s (let q : suc b ≤ k + r .blocks = omega arith in q), add-mul k (r .blocks) s, div-mul-le-self (r .addr .0 - d .addr) s, in-end d r i))
+      (omega (arith, mul-le-mul-right s (let q : suc b ≤ k + r .blocks = omega arith in q), add-mul k (r .blocks) s, div-mul-le-self (r .addr .0 - d .addr) s, in-end (sizesOf d) r i))
 
-  run-unpinned : anyPinned d (blockOf d (r .addr .0)) (r .blocks) ≡ false → (b : ℕ) → within (blockOf d (r .addr .0)) (r .blocks) b ≡ true → isPinned d b ≡ false
+  run-unpinned : anyPinned d (blockOf (sizesOf d) (r .addr .0)) (r .blocks) ≡ false → (b : ℕ) → within (blockOf (sizesOf d) (r .addr .0)) (r .blocks) b ≡ true → isPinned d b ≡ false
   run-unpinned n b w =
-      let k = blockOf d (r .addr .0) in
+      let k = blockOf (sizesOf d) (r .addr .0) in
       let z = inside-run k (r .blocks) b w in
       ap (isPinned d) (let q : b ≡ k + (b - k) = omega arith in q) ∙ none-of (λ i. pinnedIn (d .pinned) (k + i)) (r .blocks) n (b - k) (omega arith)
 
 -- a request keeps the record valid
 pub change-kept : (d : MemoryDevice) (r : Request) → deviceOk d ≡ true → deviceOk (changedBy d r (answered d r)) ≡ true
-unfolding changedBy
+unfolding tableBy
 change-kept d r h = go (isAck (answered d r)) refl
   where
     v : Valid d
     v = device-valid d h
 
-    plugs : r .kind ≡ 0 → inRange d r ≡ true → deviceOk (withPlugged d (withRun d r true)) ≡ true
+    plugs : r .kind ≡ 0 → inRange (sizesOf d) r ≡ true → deviceOk (withPlugged d (withRun (sizesOf d) (d .plugged) r true)) ≡ true
     plugs e i =
-        device-ok (withPlugged d (withRun d r true)) (setup-of d h)
-        (λ b l s. run-set (d .plugged) (blockOf d (r .addr .0)) (r .blocks) b l s (b < d .«usable_size» / d .«block_size») (run-usable d r h i b) (v .inside b l))
-        (λ b l s. run-kept (d .plugged) (blockOf d (r .addr .0)) (r .blocks) b l (v .held b l s))
+        device-ok (withPlugged d (withRun (sizesOf d) (d .plugged) r true)) (setup-of d h)
+        (λ b l s. run-set (d .plugged) (blockOf (sizesOf d) (r .addr .0)) (r .blocks) b l s (b < d .«usable_size» / d .«block_size») (run-usable d r h i b) (v .inside b l))
+        (λ b l s. run-kept (d .plugged) (blockOf (sizesOf d) (r .addr .0)) (r .blocks) b l (v .held b l s))
 
-    unplugs : inRange d r ≡ true → anyPinned d (blockOf d (r .addr .0)) (r .blocks) ≡ false → deviceOk (withPlugged d (withRun d r false)) ≡ true
+    unplugs : inRange (sizesOf d) r ≡ true → anyPinned d (blockOf (sizesOf d) (r .addr .0)) (r .blocks) ≡ false → deviceOk (withPlugged d (withRun (sizesOf d) (d .plugged) r false)) ≡ true
     unplugs i n =
-        device-ok (withPlugged d (withRun d r false)) (setup-of d h)
-        (λ b l s. v .inside b l (run-cleared (d .plugged) (blockOf d (r .addr .0)) (r .blocks) b l s))
-        (λ b l s. run-left (d .plugged) (blockOf d (r .addr .0)) (r .blocks) b l (λ w. never (sym s ∙ run-unpinned d r h i n b w)) (v .held b l s))
+        device-ok (withPlugged d (withRun (sizesOf d) (d .plugged) r false)) (setup-of d h)
+        (λ b l s. v .inside b l (run-cleared (d .plugged) (blockOf (sizesOf d) (r .addr .0)) (r .blocks) b l s))
+        (λ b l s. run-left (d .plugged) (blockOf (sizesOf d) (r .addr .0)) (r .blocks) b l (λ w. never (sym s ∙ run-unpinned d r h i n b w)) (v .held b l s))
 
-    all : anyPinned d 0 1024 ≡ false → deviceOk (withPlugged d noBlocks) ≡ true
+    all : anyPinned d 0 1024 ≡ false → deviceOk (withPlugged d noPlugs) ≡ true
     all n =
-        device-ok (withPlugged d noBlocks) (setup-of d h) (λ b l s. absurd (never (sym s ∙ zero-bit b)))
+        device-ok (withPlugged d noPlugs) (setup-of d h) (λ b l s. absurd (never (sym s ∙ zero-bit b)))
         (λ b l s. absurd (never (sym s ∙ ap (isPinned d) (sym (zero-add b)) ∙ none-of (λ i. pinnedIn (d .pinned) (0 + i)) 1024 n b l)))
 
-    by-kind : isAck (answered d r) ≡ true → (x y : Bool) → eqb (r .kind) 2 ≡ x → eqb (r .kind) 0 ≡ y → deviceOk (withPlugged d (tableAfterAck d r)) ≡ true
+    -- the pins that an UNPLUG ALL, and an UNPLUG, meets
+    met-all : r .kind ≡ 2 → pinMet d r ≡ anyPinned d 0 1024
+    met-all k = rw k
+
+    met-run : r .kind ≡ 1 → pinMet d r ≡ anyPinned d (blockOf (sizesOf d) (r .addr .0)) (r .blocks)
+    met-run k = rw k
+
+    by-kind : isAck (answered d r) ≡ true → (x y : Bool) → eqb (r .kind) 2 ≡ x → eqb (r .kind) 0 ≡ y → deviceOk (withPlugged d (tableAfterAck (sizesOf d) (d .plugged) r)) ≡ true
     by-kind a true y e f =
         let k : r .kind ≡ 2 = eqb-true (r .kind) 2 e in
-        let n = unpinned-all (anyPinned d 0 1024) (ap isAck (all-answer d r k) ∙ a) in
+        let n = unpinned-all (anyPinned d 0 1024) (ap (λ (x : Bool). isAck (unplugAllAnswer x)) (sym (met-all k)) ∙ ap isAck (all-answer nothingFurther (sizesOf d) (pinMet d r) (d .plugged) r k) ∙ a) in
         rw k (all n)
     by-kind a false true e f =
         let k : r .kind ≡ 0 = eqb-true (r .kind) 0 f in
-        rw k (plugs k (ack-range d r a (eqb-false (r .kind) 2 e)))
+        rw k (plugs k (ack-range nothingFurther (sizesOf d) (pinMet d r) (d .plugged) r a (eqb-false (r .kind) 2 e)))
     by-kind a false false e f =
-        let k : r .kind ≡ 1 = ack-kind d r a (eqb-false (r .kind) 2 e) (eqb-false (r .kind) 0 f) in
-        let i = ack-range d r a (eqb-false (r .kind) 2 e) in
-        let n = unpinned-run (ltb (heldOf d r (d .plugged)) (r .blocks)) (anyPinned d (blockOf d (r .addr .0)) (r .blocks)) (ap isAck (unplug-answer d r k i) ∙ a) in
+        let k : r .kind ≡ 1 = ack-kind nothingFurther (sizesOf d) (pinMet d r) (d .plugged) r a (eqb-false (r .kind) 2 e) (eqb-false (r .kind) 0 f) in
+        let i = ack-range nothingFurther (sizesOf d) (pinMet d r) (d .plugged) r a (eqb-false (r .kind) 2 e) in
+        let n = unpinned-run (ltb (heldIn (d .plugged) (blockOf (sizesOf d) (r .addr .0)) (r .blocks)) (r .blocks)) (anyPinned d (blockOf (sizesOf d) (r .addr .0)) (r .blocks))
+        (ap (λ (x : Bool). isAck (unplugAnswer x (d .plugged) (blockOf (sizesOf d) (r .addr .0)) (r .blocks))) (sym (met-run k)) ∙ ap isAck (unplug-answer nothingFurther (sizesOf d) (pinMet d r) (d .plugged) r k i) ∙ a) in
         rw k (unplugs i n)
 
-    go : (x : Bool) → isAck (answered d r) ≡ x → deviceOk (cond x (withPlugged d (tableAfterAck d r)) d) ≡ true
+    go : (x : Bool) → isAck (answered d r) ≡ x → deviceOk (withPlugged d (cond x (tableAfterAck (sizesOf d) (d .plugged) r) (d .plugged))) ≡ true
     go true a = by-kind a (eqb (r .kind) 2) (eqb (r .kind) 0) refl refl
     go false a = h

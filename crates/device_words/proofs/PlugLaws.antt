@@ -7,9 +7,9 @@ use native.Mathlib.Omega.{arith}
 use borrow.Author.Tests.{ltb-false, le-ltb, not-true}
 use Rattle.map_check.proofs.Bools.{and-fst, and-snd}
 use Rattle.device_words.specs.Table.{IsTable, bitAt, turned, heldIn, setIn}
-use Rattle.device_words.specs.Device.{MemoryDevice, pinnedIn, isPinned, anyPinned, withPlugged, pluggedSize}
+use Rattle.device_words.specs.Device.{MemoryDevice, pinnedIn, isPinned, anyPinned, sizesOf, withPlugged, sizeIn, pluggedSize}
 use Rattle.device_words.specs.Contracts.{Valid}
-use Rattle.device_words.specs.Request.{plugRun, unplugRun, blockOf, inRange, heldOf, alreadyPlugged, overRequested, answered, isAck}
+use Rattle.device_words.specs.Request.{plugRun, unplugRun, blockOf, inRange, alreadyPlugged, overRequested, answeredBy, answered, isAck}
 use Rattle.device_words.specs.declared.request.Response.{Response}
 use Rattle.device_words.specs.declared.request.Response.the-variants as response
 use Rattle.device_words.proofs.TableLaws.{held-none}
@@ -28,30 +28,30 @@ pub record Plugs (d : MemoryDevice) (a n : ℕ) : Type 0 where
   pub some : 1 ≤ n
   pub above : d .addr ≤ a
   pub room : a - d .addr + n * d .«block_size» ≤ d .«usable_size»
-  pub free : heldIn (d .plugged) (blockOf d a) n ≡ 0
+  pub free : heldIn (d .plugged) (blockOf (sizesOf d) a) n ≡ 0
   pub asked : pluggedSize d + n * d .«block_size» ≤ d .«requested_size»
 
 -- what it leaves
 abbrev pub afterPlug : MemoryDevice → ℕ → ℕ → MemoryDevice
-afterPlug d a n = withPlugged d (turned (d .plugged) (blockOf d a) n true)
+afterPlug d a n = withPlugged d (turned (d .plugged) (blockOf (sizesOf d) a) n true)
 
 module _ (d : MemoryDevice) (a n : ℕ) where
   pub ack-plugs : isAck (answered d (plugRun a n)) ≡ true → Plugs d a n
-  unfolding answered
+  unfolding answeredBy
   ack-plugs h =
       let r = plugRun a n in
-      let t = sym (all (inRange d r) (alreadyPlugged d r) (overRequested d r)) ∙ h in
-      let two = and-fst (inRange d r && not (alreadyPlugged d r)) (not (overRequested d r)) t in
-      let i = and-fst (inRange d r) (not (alreadyPlugged d r)) two in
+      let t = sym (all (inRange (sizesOf d) r) (alreadyPlugged (d .plugged) (blockOf (sizesOf d) a) n) (overRequested (sizesOf d) (d .plugged) n)) ∙ h in
+      let two = and-fst (inRange (sizesOf d) r && not (alreadyPlugged (d .plugged) (blockOf (sizesOf d) a) n)) (not (overRequested (sizesOf d) (d .plugged) n)) t in
+      let i = and-fst (inRange (sizesOf d) r) (not (alreadyPlugged (d .plugged) (blockOf (sizesOf d) a) n)) two in
       record {
-        aligned = in-aligned d r i;
-        some = in-some d r i;
-        above = in-above d r i;
-        room = in-end d r i;
-        free = omega (arith, ltb-false 0 (heldOf d r (d .plugged)) (not-true (alreadyPlugged d r) (and-snd (inRange d r) (not (alreadyPlugged d r)) two)));
+        aligned = in-aligned (sizesOf d) r i;
+        some = in-some (sizesOf d) r i;
+        above = in-above (sizesOf d) r i;
+        room = in-end (sizesOf d) r i;
+        free = omega (arith, ltb-false 0 (heldIn (d .plugged) (blockOf (sizesOf d) a) n) (not-true (alreadyPlugged (d .plugged) (blockOf (sizesOf d) a) n) (and-snd (inRange (sizesOf d) r) (not (alreadyPlugged (d .plugged) (blockOf (sizesOf d) a) n)) two)));
         asked =
             ltb-false (d .«requested_size») (pluggedSize d + n * d .«block_size»)
-            (not-true (overRequested d r) (and-snd (inRange d r && not (alreadyPlugged d r)) (not (overRequested d r)) t));
+            (not-true (overRequested (sizesOf d) (d .plugged) n) (and-snd (inRange (sizesOf d) r && not (alreadyPlugged (d .plugged) (blockOf (sizesOf d) a) n)) (not (overRequested (sizesOf d) (d .plugged) n)) t));
       }
     where
       all : (x y z : Bool) → isAck (byChecks x y z) ≡ (x && not y && not z)
@@ -62,29 +62,29 @@ module _ (d : MemoryDevice) (a n : ℕ) where
 
   module _ (p : Plugs d a n) where
     pub plugs-ack : answered d (plugRun a n) ≡ response.Ack
-    unfolding answered
+    unfolding answeredBy
     plugs-ack =
         rw (
-          in-of d (plugRun a n) (p .aligned) (p .some) (p .above) (p .room),
-          le-ltb 0 (heldOf d (plugRun a n) (d .plugged)) (omega (arith, p .free)),
+          in-of (sizesOf d) (plugRun a n) (p .aligned) (p .some) (p .above) (p .room),
+          le-ltb 0 (heldIn (d .plugged) (blockOf (sizesOf d) a) n) (omega (arith, p .free)),
           le-ltb (d .«requested_size») (pluggedSize d + n * d .«block_size») (p .asked),
         )
 
     module _ (v : Valid d) where
-      pub run-fits : blockOf d a + n ≤ 1024
-      run-fits = blocks-fit d a n (valid-sizes d v) (p .room)
+      pub run-fits : blockOf (sizesOf d) a + n ≤ 1024
+      run-fits = blocks-fit (sizesOf d) a n (valid-sizes d v) (p .room)
 
       -- the run's blocks are added to the plugged size
       plugged-more : pluggedSize (afterPlug d a n) ≡ pluggedSize d + n * d .«block_size»
-      unfolding pluggedSize
+      unfolding sizeIn
       plugged-more =
-          let k = blockOf d a in
+          let k = blockOf (sizesOf d) a in
           let more : setIn (turned (d .plugged) k n true) 16 ≡ setIn (d .plugged) 16 + n = omega (arith, set-turned (d .plugged) k n true run-fits, p .free) in
           ap (λ (x : ℕ). d .«block_size» * x) more ∙ mul-add (d .«block_size») (setIn (d .plugged) 16) n
           ∙ ap (λ (x : ℕ). d .«block_size» * setIn (d .plugged) 16 + x) (mul-comm (d .«block_size») n)
 
 -- the first block behind a run
-block-behind : (d : MemoryDevice) (a n : ℕ) → Valid d → d .addr ≤ a → blockOf d (a + n * d .«block_size») ≡ blockOf d a + n
+block-behind : (d : MemoryDevice) (a n : ℕ) → Valid d → d .addr ≤ a → blockOf (sizesOf d) (a + n * d .«block_size») ≡ blockOf (sizesOf d) a + n
 block-behind d a n v h =
     let e : a + n * d .«block_size» - d .addr ≡ a - d .addr + n * d .«block_size» = omega arith in
     ap (λ (x : ℕ). x / d .«block_size») e ∙ add-mul-div-right (a - d .addr) n (omega (arith, v .least))
@@ -102,15 +102,15 @@ module _ (d : MemoryDevice) (a n m : ℕ) (v : Valid d) where
         some = s;
         above = p .above;
         room = omega (arith, p .room, sizes);
-        free = omega (arith, p .free, held-both (d .plugged) (blockOf d a) n m);
+        free = omega (arith, p .free, held-both (d .plugged) (blockOf (sizesOf d) a) n m);
         asked = omega (arith, p .asked, sizes);
       }
 
   -- the blocks that follow are as they were before the first part
-  held-behind : d .addr ≤ a → blockOf d a + (n + m) ≤ 1024
-      → heldIn (turned (d .plugged) (blockOf d a) n true) (blockOf d (a + n * d .«block_size»)) m ≡ heldIn (d .plugged) (blockOf d a + n) m
+  held-behind : d .addr ≤ a → blockOf (sizesOf d) a + (n + m) ≤ 1024
+      → heldIn (turned (d .plugged) (blockOf (sizesOf d) a) n true) (blockOf (sizesOf d) (a + n * d .«block_size»)) m ≡ heldIn (d .plugged) (blockOf (sizesOf d) a + n) m
   held-behind h f =
-      let k = blockOf d a in
+      let k = blockOf (sizesOf d) a in
       ap (λ (x : ℕ). heldIn (turned (d .plugged) k n true) x m) (block-behind d a n v h)
       ∙ held-apart (d .plugged) k n true (k + n) m (omega arith) (λ b p q. within-after k n b p)
 
@@ -121,7 +121,7 @@ module _ (d : MemoryDevice) (a n m : ℕ) (v : Valid d) where
         some = s;
         above = omega (arith, p .above);
         room = omega (arith, q .room, sizes, p .above);
-        free = held-behind (p .above) (run-fits d a (n + m) q v) ∙ omega (arith, q .free, held-both (d .plugged) (blockOf d a) n m);
+        free = held-behind (p .above) (run-fits d a (n + m) q v) ∙ omega (arith, q .free, held-both (d .plugged) (blockOf (sizesOf d) a) n m);
         asked = omega (arith, plugged-more d a n p v, q .asked, sizes);
       }
 
@@ -133,13 +133,13 @@ module _ (d : MemoryDevice) (a n m : ℕ) (v : Valid d) where
         some = omega (arith, p .some);
         above = p .above;
         room = room;
-        free = omega (arith, held-both (d .plugged) (blockOf d a) n m, p .free, held-behind (p .above) (blocks-fit d a (n + m) (valid-sizes d v) room), q .free);
+        free = omega (arith, held-both (d .plugged) (blockOf (sizesOf d) a) n m, p .free, held-behind (p .above) (blocks-fit (sizesOf d) a (n + m) (valid-sizes d v) room), q .free);
         asked = omega (arith, plugged-more d a n p v, q .asked, sizes);
       }
 
   pub leaves-one : d .addr ≤ a → afterPlug (afterPlug d a n) (a + n * d .«block_size») m ≡ afterPlug d a (n + m)
   leaves-one h =
-      let k = blockOf d a in
+      let k = blockOf (sizesOf d) a in
       ap (λ (x : ℕ). withPlugged d (turned (turned (d .plugged) k n true) x m true)) (block-behind d a n v h)
       ∙ ap (withPlugged d) (turned-both (d .plugged) k n m true)
 
@@ -147,25 +147,25 @@ module _ (d : MemoryDevice) (a n m : ℕ) (v : Valid d) where
 
 module _ (d : MemoryDevice) (a n : ℕ) (v : Valid d) (p : Plugs d a n) where
   -- only plugged blocks are pinned
-  free-unpinned : anyPinned d (blockOf d a) n ≡ false
+  free-unpinned : anyPinned d (blockOf (sizesOf d) a) n ≡ false
   free-unpinned =
-      any-none (λ i. pinnedIn (d .pinned) (blockOf d a + i)) n
-      (λ i l. let b = blockOf d a + i in
-      unless (isPinned d b) (bitAt (d .plugged) b) (v .held b (omega (arith, run-fits d a n p v))) (held-none (d .plugged) (blockOf d a) n (p .free) i l))
+      any-none (λ i. pinnedIn (d .pinned) (blockOf (sizesOf d) a + i)) n
+      (λ i l. let b = blockOf (sizesOf d) a + i in
+      unless (isPinned d b) (bitAt (d .plugged) b) (v .held b (omega (arith, run-fits d a n p v))) (held-none (d .plugged) (blockOf (sizesOf d) a) n (p .free) i l))
     where
       unless : (x y : Bool) → (x ≡ true → y ≡ true) → y ≡ false → x ≡ false
       unless true y f e = sym (f refl) ∙ e
       unless false y f e = refl
 
   pub unplug-ack : answered (afterPlug d a n) (unplugRun a n) ≡ response.Ack
-  unfolding answered
+  unfolding answeredBy
   unplug-ack =
-      let held = held-turned (d .plugged) (blockOf d a) n true (run-fits d a n p v) in
+      let held = held-turned (d .plugged) (blockOf (sizesOf d) a) n true (run-fits d a n p v) in
       rw (
-        in-of (afterPlug d a n) (unplugRun a n) (p .aligned) (p .some) (p .above) (p .room),
-        le-ltb (heldOf (afterPlug d a n) (unplugRun a n) (afterPlug d a n .plugged)) n (omega (arith, held)),
+        in-of (sizesOf d) (unplugRun a n) (p .aligned) (p .some) (p .above) (p .room),
+        le-ltb (heldIn (afterPlug d a n .plugged) (blockOf (sizesOf d) a) n) n (omega (arith, held)),
         free-unpinned,
       )
 
-  pub unplug-back : IsTable (d .plugged) → withPlugged d (turned (afterPlug d a n .plugged) (blockOf d a) n false) ≡ d
-  unplug-back t = ap (withPlugged d) (turned-back (d .plugged) (blockOf d a) n true t (p .free))
+  pub unplug-back : IsTable (d .plugged) → withPlugged d (turned (afterPlug d a n .plugged) (blockOf (sizesOf d) a) n false) ≡ d
+  unplug-back t = ap (withPlugged d) (turned-back (d .plugged) (blockOf (sizesOf d) a) n true t (p .free))

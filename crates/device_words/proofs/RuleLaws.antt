@@ -11,7 +11,7 @@ use lib.Pow.{pow-mono}
 use borrow.Author.Tests.{leb-true, ltb-true, lt-ltb, eqb-true, eqb-false, not-true, eq-eqb, ne-eqb}
 use Rattle.device_words.specs.Table.{bitAt, only, implies}
 use Rattle.map_records.specs.Limits.{limit}
-use Rattle.device_words.specs.Device.{MemoryDevice, isPinned, powerBelow, blockOk, regionOk, addrOk, sizesOk, setupOk, setupKept, tablesOk, deviceOk}
+use Rattle.device_words.specs.Device.{MemoryDevice, isPinned, sizesOf, powerBelow, blockOk, regionOk, addrOk, sizesOk, setupOk, setupKept, tablesOk, deviceOk}
 use Rattle.device_words.specs.Contracts.{Valid, Sized}
 use Rattle.device_words.proofs.TableLaws.{all-true, all-of}
 use Rattle.map_check.proofs.Bools.{never, and-fst, and-snd, and-off}
@@ -160,5 +160,5 @@ device-valid d h =
     }
 
 -- the sizes that carrying out a request needs are a valid record's
-pub valid-sizes : (d : MemoryDevice) → Valid d → Sized d
+pub valid-sizes : (d : MemoryDevice) → Valid d → Sized (sizesOf d)
 valid-sizes d v = record { some = omega (arith, v .least); most = v .most; room = omega (arith, v .usable, v .blocks) }

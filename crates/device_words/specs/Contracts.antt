@@ -1,15 +1,20 @@
 -- What the functions inside the crate, and those over it, promise each other. Assumes nothing: these are definitions.
-use mathlib.Core.Bool.{Bool, true}
+use mathlib.Core.Bool.{Bool, true, false, _&&_, _||_}
 use mathlib.Core.List.{List}
 use mathlib.Core.Path.{_≡_}
 use Prim.Native.Nat.{ℕ, _+_, _*_, _/_, _%_, _^_, _≤_, _<_}
+use lib.Dec.{eqb, leb}
 use lib.ListN.{length}
 use Rattle.map_records.specs.Limits.{limit}
-use Rattle.device_words.specs.Table.{bitAt, turned, only, implies, mostBlocks}
-use Rattle.device_words.specs.Device.{MemoryDevice, isPinned, withPlugged, withPins, withPin}
-use Rattle.device_words.specs.Request.{requestOf, blockOf, tableAfterAck, carriedOut}
+use Rattle.device_words.specs.Table.{mostBlocks, bitAt, only, implies}
+use Rattle.device_words.specs.Bytes.{responseBytes}
+use Rattle.device_words.specs.Device.{MemoryDevice, isPinned, sizesOf, withPins, withPin}
+use Rattle.device_words.specs.Request.{requestOf, unplugType, unplugAllType, stateType, inRange, askedFrom, askedCount, typeOf, stateOf, nothingFurther, answeredBy, tableBy, carriedOut}
 use Rattle.device_words.specs.Words.{deviceAt, deviceOf, deviceWords, deviceLength}
+use Rattle.device_words.specs.declared.words.Sizes.{Sizes}
 use Rattle.device_words.specs.declared.request.Request.{Request}
+use Rattle.device_words.specs.declared.answer.Asked.{Asked}
+use Rattle.device_words.specs.declared.answer.Asked.the-variants as asked
 
 -- every block that is set is below n; is set in the other table too
 abbrev pub onlyBelow : List ℕ → ℕ → Bool
@@ -34,36 +39,46 @@ pub record Valid (d : MemoryDevice) : Type 0 where
   pub inside : (b : ℕ) → b < mostBlocks → bitAt (d .plugged) b ≡ true → b < d .«usable_size» / d .«block_size»
   pub held : (b : ℕ) → b < mostBlocks → isPinned d b ≡ true → bitAt (d .plugged) b ≡ true
 
--- what carrying out a request needs of a record
-pub record Sized (d : MemoryDevice) : Type 0 where
-  pub some : 0 < d .«block_size»
-  pub most : d .«block_size» ≤ 2 ^ 30
-  pub room : d .«usable_size» ≤ mostBlocks * d .«block_size»
+-- what carrying out a request needs of the sizes
+pub record Sized (s : Sizes) : Type 0 where
+  pub some : 0 < s .«block_size»
+  pub most : s .«block_size» ≤ 2 ^ 30
+  pub room : s .«usable_size» ≤ mostBlocks * s .«block_size»
 
--- the words of such records
+-- the words of a valid record
 pub record ValidWords (w : List ℕ) : Type 0 where
   pub size : length w ≡ deviceLength
   pub valid : Valid (deviceAt w)
 
-pub record SizedWords (w : List ℕ) : Type 0 where
-  pub size : length w ≡ deviceLength
-  pub sized : Sized (deviceAt w)
+-- a request has an answer other than ERROR by its type and range
+abbrev pub answerable : Sizes → Request → Bool
+answerable s r = eqb (r .kind) unplugAllType || (leb (r .kind) stateType && inRange s r)
 
--- the first block of a request in range, whose blocks are in the table
-pub record FirstBlock (d : MemoryDevice) (r : Request) (from : ℕ) : Type 0 where
-  pub first : from ≡ blockOf d (r .addr .0)
-  pub room : from + r .blocks ≤ mostBlocks
+-- the n blocks from b on are those that a request asks for, and lie in the table
+pub record RunOf (s : Sizes) (r : Request) (b n : ℕ) : Type 0 where
+  pub answers : answerable s r ≡ true
+  pub first : b ≡ askedFrom s r
+  pub count : n ≡ askedCount r
+  pub room : b + n ≤ mostBlocks
 
--- what is left of a device's words where a run of blocks is plugged or not, or a block pinned or not
-abbrev pub plugWords : List ℕ → ℕ → ℕ → Bool → List ℕ
-plugWords w from n on = deviceWords (withPlugged (deviceAt w) (turned (deviceAt w .plugged) from n on))
+-- what was found of the blocks that a request asks for
+abbrev pub AsksFor : Sizes → Request → Asked → Type 0
+AsksFor s r asked.Outside = answerable s r ≡ false
+AsksFor s r (asked.Run b n) = RunOf s r (b .0) n
 
+-- pins matter to an UNPLUG and an UNPLUG ALL
+abbrev pub unplugs : ℕ → Bool
+unplugs kind = eqb kind unplugType || eqb kind unplugAllType
+
+-- what is left of a device's words where a block is pinned or not
 abbrev pub pinWords : List ℕ → ℕ → Bool → List ℕ
 pinWords w b on = deviceWords (withPins (deviceAt w) (withPin (deviceAt w .pinned) b on))
 
--- what an acknowledged request leaves of a device's words
-abbrev pub ackWords : List ℕ → Request → List ℕ
-ackWords w r = deviceWords (withPlugged (deviceAt w) (tableAfterAck (deviceAt w) r))
+-- the response x to a request, and the table t′ that it leaves of t
+abbrev pub CarriesTable : Sizes → Bool → List ℕ → Request → List ℕ → List ℕ → Type 0
+CarriesTable s held t r x t′ =
+    (x ≡ responseBytes (typeOf (answeredBy nothingFurther s held t r)) (stateOf (answeredBy nothingFurther s held t r)))
+    × (t′ ≡ tableBy s t r (answeredBy nothingFurther s held t r))
 
 -- the response x to a request's bytes s, and the words w′ that it leaves of w
 abbrev pub Responds : List ℕ → List ℕ → List ℕ → List ℕ → Type 0

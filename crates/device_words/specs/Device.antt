@@ -6,6 +6,7 @@ use lib.Dec.{eqb, leb}
 use lib.ListN.{replicate}
 use Rattle.map_records.specs.Limits.{limit}
 use Rattle.device_words.specs.Table.{bitAt, turned, setIn, anyBelow, only, implies, mostBlocks, tableLength}
+use Rattle.device_words.specs.declared.words.Sizes.{Sizes}
 
 -- the memory device. Block b is plugged, or pinned, where bit b % 64 of word b / 64 is set
 pub record MemoryDevice : Type 0 where
@@ -24,12 +25,16 @@ pinnedIn pins b = bitAt pins b
 abbrev pub isPinned : MemoryDevice → ℕ → Bool
 isPinned d b = pinnedIn (d .pinned) b
 
--- one of the n blocks from `from` on is pinned; one of all 1,024
+-- one of the n blocks from `from` on is pinned
 abbrev pub anyPinnedIn : List ℕ → ℕ → ℕ → Bool
 anyPinnedIn pins from n = anyBelow (λ i. pinnedIn pins (from + i)) n
 
 abbrev pub anyPinned : MemoryDevice → ℕ → ℕ → Bool
 anyPinned d from n = anyPinnedIn (d .pinned) from n
+
+-- the sizes and the address by which requests are answered
+abbrev pub sizesOf : MemoryDevice → Sizes
+sizesOf d = record { «block_size» = d .«block_size»; addr = record { 0 = d .addr }; «usable_size» = d .«usable_size»; «requested_size» = d .«requested_size» }
 
 -- b is one of 2^12, 2^13, .. below 2^(12 + n)
 unfoldable pub powerBelow : ℕ → ℕ → Bool
@@ -69,8 +74,11 @@ unfoldable pub deviceOk : MemoryDevice → Bool
 deviceOk d = setupKept d && tablesOk d
 
 -- 'Fresh: nothing plugged or pinned'
-abbrev pub noBlocks : List ℕ
-noBlocks = replicate tableLength 0
+abbrev pub noPlugs : List ℕ
+noPlugs = replicate tableLength 0
+
+abbrev pub noPins : List ℕ
+noPins = replicate tableLength 0
 
 abbrev pub withTables : MemoryDevice → List ℕ → List ℕ → MemoryDevice
 withTables d plugged pinned =
@@ -95,16 +103,19 @@ abbrev pub withPin : List ℕ → ℕ → Bool → List ℕ
 withPin pins b on = turned pins b 1 on
 
 abbrev pub fresh : MemoryDevice → MemoryDevice
-fresh d = withTables d noBlocks noBlocks
+fresh d = withTables d noPlugs noPins
 
 -- the record of zeros, which 27 refuses
 abbrev pub noDevice : MemoryDevice
 noDevice =
-    record { «block_size» = 0; addr = 0; «region_size» = 0; «usable_size» = 0; «requested_size» = 0; plugged = noBlocks; pinned = noBlocks }
+    record { «block_size» = 0; addr = 0; «region_size» = 0; «usable_size» = 0; «requested_size» = 0; plugged = noPlugs; pinned = noPins }
 
--- 'Plugged size = block size times the blocks plugged in the record'
-unfoldable pub pluggedSize : MemoryDevice → ℕ
-pluggedSize d = d .«block_size» * setIn (d .plugged) tableLength
+-- 'Plugged size = block size times the blocks plugged in the record', by the block size and the plug table
+unfoldable pub sizeIn : ℕ → List ℕ → ℕ
+sizeIn block plugged = block * setIn plugged tableLength
+
+abbrev pub pluggedSize : MemoryDevice → ℕ
+pluggedSize d = sizeIn (d .«block_size») (d .plugged)
 
 -- 'Block of a byte = its offset in the managed node divided by the block size'
 abbrev pub blockOfByte : MemoryDevice → ℕ → ℕ

@@ -7,7 +7,8 @@ use lib.ListN.{replicate}
 use Rattle.map_check.specs.Reply.{Reply, accepted}
 use Rattle.device_words.specs.Bytes.{le, leNumber, responseBytes}
 use Rattle.device_words.specs.Table.{turned, heldIn, mostBlocks}
-use Rattle.device_words.specs.Device.{MemoryDevice, anyPinned, noBlocks, withPlugged, pluggedSize}
+use Rattle.device_words.specs.Device.{MemoryDevice, anyPinned, noPlugs, sizesOf, withPlugged, sizeIn}
+use Rattle.device_words.specs.declared.words.Sizes.{Sizes}
 use Rattle.device_words.specs.declared.request.Request.{Request}
 use Rattle.device_words.specs.declared.request.Response.{Response}
 use Rattle.device_words.specs.declared.request.Response.the-variants as response
@@ -62,63 +63,60 @@ stateOf response.Plugged = 0
 stateOf response.Unplugged = 1
 stateOf response.Mixed = 2
 
+-- ---- A request is answered by the sizes s, by the plug table t and by what was asked of the pins: `held` says whether one of its blocks is pinned. A device's own sizes, table and pins come last.
+
 -- 'block of a request's address = (address - addr) divided by the block size'
-abbrev pub blockOf : MemoryDevice → ℕ → ℕ
-blockOf d a = (a - d .addr) / d .«block_size»
+abbrev pub blockOf : Sizes → ℕ → ℕ
+blockOf s a = (a - s .addr .0) / s .«block_size»
 
 -- 'Range (all but UNPLUG ALL): addr aligned, at least 1 block, all blocks in the usable part; else ERROR'
-abbrev pub inRange : MemoryDevice → Request → Bool
-inRange d r =
-    eqb (r .addr .0 % d .«block_size») 0 && leb 1 (r .blocks) && leb (d .addr) (r .addr .0)
-    && leb (r .addr .0 - d .addr + r .blocks * d .«block_size») (d .«usable_size»)
+abbrev pub inRange : Sizes → Request → Bool
+inRange s r =
+    eqb (r .addr .0 % s .«block_size») 0 && leb 1 (r .blocks) && leb (s .addr .0) (r .addr .0)
+    && leb (r .addr .0 - s .addr .0 + r .blocks * s .«block_size») (s .«usable_size»)
 
--- how many of a request's blocks are set in a table
-abbrev pub heldOf : MemoryDevice → Request → List ℕ → ℕ
-heldOf d r t = heldIn t (blockOf d (r .addr .0)) (r .blocks)
+-- of the n blocks from b on: 'a block already plugged'; 'plugged size + new over requested'
+abbrev pub alreadyPlugged : List ℕ → ℕ → ℕ → Bool
+alreadyPlugged t b n = ltb 0 (heldIn t b n)
 
--- 'a block already plugged'; 'plugged size + new over requested'
-abbrev pub alreadyPlugged : MemoryDevice → Request → Bool
-alreadyPlugged d r = ltb 0 (heldOf d r (d .plugged))
+abbrev pub overRequested : Sizes → List ℕ → ℕ → Bool
+overRequested s t n = ltb (s .«requested_size») (sizeIn (s .«block_size») t + n * s .«block_size»)
 
-abbrev pub overRequested : MemoryDevice → Request → Bool
-overRequested d r = ltb (d .«requested_size») (pluggedSize d + r .blocks * d .«block_size»)
-
--- 'PLUG: a block already plugged ERROR; plugged size + new over requested NACK; else ACK'
-abbrev pub plugAnswer : MemoryDevice → Request → Response
-plugAnswer d r = cond (alreadyPlugged d r) response.Error (cond (overRequested d r) response.Nack response.Ack)
+-- 'PLUG: a block already plugged ERROR; plugged size + new over requested NACK; else ACK', or what is asked further
+abbrev pub plugAnswer : Response → Sizes → List ℕ → ℕ → ℕ → Response
+plugAnswer further s t b n = cond (alreadyPlugged t b n) response.Error (cond (overRequested s t n) response.Nack further)
 
 -- 'UNPLUG: a block unplugged ERROR; one pinned BUSY; else ACK'
-abbrev pub unplugAnswer : MemoryDevice → Request → Response
-unplugAnswer d r =
-    cond (ltb (heldOf d r (d .plugged)) (r .blocks)) response.Error (cond (anyPinned d (blockOf d (r .addr .0)) (r .blocks)) response.Busy response.Ack)
+abbrev pub unplugAnswer : Bool → List ℕ → ℕ → ℕ → Response
+unplugAnswer held t b n = cond (ltb (heldIn t b n) n) response.Error (cond held response.Busy response.Ack)
 
 -- 'UNPLUG ALL: any pin BUSY; else ACK'
-abbrev pub unplugAllAnswer : MemoryDevice → Response
-unplugAllAnswer d = cond (anyPinned d 0 mostBlocks) response.Busy response.Ack
+abbrev pub unplugAllAnswer : Bool → Response
+unplugAllAnswer held = cond held response.Busy response.Ack
 
 -- 'STATE: ACK with 0 all plugged, 1 all unplugged, 2 mixed'
-abbrev pub stateAnswer : MemoryDevice → Request → Response
-stateAnswer d r =
-    cond (eqb (heldOf d r (d .plugged)) (r .blocks)) response.Plugged (cond (eqb (heldOf d r (d .plugged)) 0) response.Unplugged response.Mixed)
+abbrev pub stateAnswer : List ℕ → ℕ → ℕ → Response
+stateAnswer t b n = cond (eqb (heldIn t b n) n) response.Plugged (cond (eqb (heldIn t b n) 0) response.Unplugged response.Mixed)
 
-abbrev pub ranged : MemoryDevice → Request → Response → Response
-ranged d r x = cond (inRange d r) x response.Error
+-- an answer for the blocks of a request in range
+abbrev pub ranged : Sizes → Request → (ℕ → ℕ → Response) → Response
+ranged s r f = cond (inRange s r) (f (blockOf s (r .addr .0)) (r .blocks)) response.Error
 
--- the answer to a request; 'any other ERROR'
-unfoldable pub answered : MemoryDevice → Request → Response
-answered d r =
-    cond (eqb (r .kind) plugType) (ranged d r (plugAnswer d r))
-    (cond (eqb (r .kind) unplugType) (ranged d r (unplugAnswer d r))
-    (cond (eqb (r .kind) unplugAllType) (unplugAllAnswer d) (cond (eqb (r .kind) stateType) (ranged d r (stateAnswer d r)) response.Error)))
+-- the answer to a request; 'any other ERROR'. `further` is what a PLUG is asked after its own checks.
+unfoldable pub answeredBy : (Request → Response) → Sizes → Bool → List ℕ → Request → Response
+answeredBy further s held t r =
+    cond (eqb (r .kind) plugType) (ranged s r (plugAnswer (further r) s t))
+    (cond (eqb (r .kind) unplugType) (ranged s r (unplugAnswer held t))
+    (cond (eqb (r .kind) unplugAllType) (unplugAllAnswer held) (cond (eqb (r .kind) stateType) (ranged s r (stateAnswer t)) response.Error)))
 
 -- the plug table with a request's blocks set or not
-abbrev pub withRun : MemoryDevice → Request → Bool → List ℕ
-withRun d r on = turned (d .plugged) (blockOf d (r .addr .0)) (r .blocks) on
+abbrev pub withRun : Sizes → List ℕ → Request → Bool → List ℕ
+withRun s t r on = turned t (blockOf s (r .addr .0)) (r .blocks) on
 
 -- the plug table after an acknowledged request
-abbrev pub tableAfterAck : MemoryDevice → Request → List ℕ
-tableAfterAck d r =
-    cond (eqb (r .kind) plugType) (withRun d r true) (cond (eqb (r .kind) unplugType) (withRun d r false) (cond (eqb (r .kind) unplugAllType) noBlocks (d .plugged)))
+abbrev pub tableAfterAck : Sizes → List ℕ → Request → List ℕ
+tableAfterAck s t r =
+    cond (eqb (r .kind) plugType) (withRun s t r true) (cond (eqb (r .kind) unplugType) (withRun s t r false) (cond (eqb (r .kind) unplugAllType) noPlugs t))
 
 -- an acknowledgement of PLUG, UNPLUG or UNPLUG ALL
 abbrev pub isAck : Response → Bool
@@ -131,8 +129,31 @@ isAck response.Unplugged = false
 isAck response.Mixed = false
 
 -- only an acknowledgement changes the table
-unfoldable pub changedBy : MemoryDevice → Request → Response → MemoryDevice
-changedBy d r x = cond (isAck x) (withPlugged d (tableAfterAck d r)) d
+unfoldable pub tableBy : Sizes → List ℕ → Request → Response → List ℕ
+tableBy s t r x = cond (isAck x) (tableAfterAck s t r) t
+
+-- ---- of a device
+
+-- the blocks that a request asks for: all, of an UNPLUG ALL, or its run
+abbrev pub askedFrom : Sizes → Request → ℕ
+askedFrom s r = cond (eqb (r .kind) unplugAllType) 0 (blockOf s (r .addr .0))
+
+abbrev pub askedCount : Request → ℕ
+askedCount r = cond (eqb (r .kind) unplugAllType) mostBlocks (r .blocks)
+
+-- one of them is pinned
+abbrev pub pinMet : MemoryDevice → Request → Bool
+pinMet d r = anyPinned d (askedFrom (sizesOf d) r) (askedCount r)
+
+-- a PLUG of the device by itself is asked nothing further
+abbrev pub nothingFurther : Request → Response
+nothingFurther r = response.Ack
+
+abbrev pub answered : MemoryDevice → Request → Response
+answered d r = answeredBy nothingFurther (sizesOf d) (pinMet d r) (d .plugged) r
+
+abbrev pub changedBy : MemoryDevice → Request → Response → MemoryDevice
+changedBy d r x = withPlugged d (tableBy (sizesOf d) (d .plugged) r x)
 
 -- document 01's answer, the ten bytes of the response, and the next state
 pub record RequestOutcome : Type 0 where

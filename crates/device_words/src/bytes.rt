@@ -5,6 +5,7 @@ ghost use lib.Seq.{sets};
 ghost use Prim.Native.Nat.{_+_, _≤_, _<_, _^_};
 ghost use Rattle.device_words.specs.Bytes.{le, leNumber, responseBytes, configurationBytes, configurationLength};
 use map_records::map::GuestAddress;
+use map_records::numbers::wide;
 
 // The bytes of a request, of a response and of the configuration.
 pub const REQUEST_BYTES: usize = 24;
@@ -12,12 +13,6 @@ pub const REQUEST_BYTES: usize = 24;
 pub const RESPONSE_BYTES: usize = 10;
 
 pub const CONFIGURATION_BYTES: usize = 56;
-
-pub fn wide(x: u8) -> u64
-    ensures { λ r. ⌜ (r ≡ x) × (r < 256) ⌝ }
-{
-    x as u64
-}
 
 // The number in the k bytes from a place on.
 pub fn number_at(bytes: &[u8], at: usize, k: usize) -> u64

@@ -7,6 +7,7 @@ ghost use Rattle.device_words.specs.Table.{bitAt, implies, mostBlocks};
 ghost use Rattle.device_words.specs.Device.{isPinned, anyPinned};
 ghost use Rattle.device_words.specs.Words.{deviceAt, deviceLength};
 ghost use Rattle.device_words.specs.Contracts.{pinWords};
+use crate::block::BlockNumber;
 use crate::table::BLOCKS;
 use crate::table::none_set;
 use crate::table::part_of;
@@ -16,20 +17,20 @@ use crate::words::PINNED;
 use crate::words::PLUGGED;
 
 // Is one of the n blocks from `from` on pinned? One block is a run of 1, and all are 1,024.
-pub fn any_pinned(device: &[u64], from: usize, n: usize) -> bool
-    requires { ⌜ (length (now device) ≡ deviceLength) × (from + n ≤ mostBlocks) ⌝ }
-    ensures { λ r. ⌜ r ≡ anyPinned (deviceAt (now (device .entry))) from n ⌝ }
+pub fn any_pinned(device: &[u64], from: BlockNumber, n: usize) -> bool
+    requires { ⌜ (length (now device) ≡ deviceLength) × (from .0 + n ≤ mostBlocks) ⌝ }
+    ensures { λ r. ⌜ r ≡ anyPinned (deviceAt (now (device .entry))) (from .0) n ⌝ }
 {
     !none_set(&device[PINNED..DEVICE_WORDS], from, n)
 }
 
-// Is a block of any number pinned? None is from 1,024 on.
-pub fn is_pinned(device: &[u64], b: usize) -> bool
+// Is a block pinned? None is from 1,024 on.
+pub fn is_pinned(device: &[u64], b: BlockNumber) -> bool
     requires { ⌜ length (now device) ≡ deviceLength ⌝ }
-    ensures value { λ r. ⌜ r ≡ isPinned (deviceAt (now (device .entry))) b ⌝ }
-    ensures room { λ r. ⌜ (r ≡ true → b < mostBlocks) ⌝ }
+    ensures value { λ r. ⌜ r ≡ isPinned (deviceAt (now (device .entry))) (b .0) ⌝ }
+    ensures room { λ r. ⌜ (r ≡ true → b .0 < mostBlocks) ⌝ }
 {
-    if b < BLOCKS {
+    if (b.0 as usize) < BLOCKS {
         return any_pinned(device, b, 1);
     }
     false
@@ -44,9 +45,9 @@ pub fn pins_plugged(device: &[u64]) -> bool
 }
 
 // A block is pinned, or no longer.
-pub fn set_pin(device: &mut [u64], b: usize, on: bool)
-    requires { ⌜ (length (now device) ≡ deviceLength) × (b < mostBlocks) ⌝ }
-    ensures { λ _. ⌜ now (device .exit) ≡ pinWords (now (device .entry)) b on ⌝ }
+pub fn set_pin(device: &mut [u64], b: BlockNumber, on: bool)
+    requires { ⌜ (length (now device) ≡ deviceLength) × (b .0 < mostBlocks) ⌝ }
+    ensures { λ _. ⌜ now (device .exit) ≡ pinWords (now (device .entry)) (b .0) on ⌝ }
 {
     with_run(&mut device[PINNED..DEVICE_WORDS], b, 1, on);
 }

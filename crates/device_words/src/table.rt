@@ -1,4 +1,4 @@
-// A table of 1,024 blocks in sixteen lent words.
+// A table of 1,024 blocks in sixteen lent words. A run of blocks is its first one, and how many they are.
 ghost use mathlib.Core.Path.{_≡_};
 ghost use mathlib.Core.Bool.{cond};
 ghost use Prim.Native.Nat.{_+_, _*_, _≤_, _<_};
@@ -6,6 +6,7 @@ ghost use lib.Dec.{eqb, ltb};
 ghost use lib.ListN.{length, replicate};
 ghost use Rattle.device_words.specs.Table.{bitOf, bitAt, wordOf, within, turned, heldIn, bitsIn, setIn, mostBlocks, tableLength};
 ghost use Rattle.device_words.specs.Contracts.{onlyBelow, partOf};
+use crate::block::BlockNumber;
 
 // The most blocks of a region, and the words of their table.
 pub const BLOCKS: usize = 1024;
@@ -16,10 +17,11 @@ pub const TABLE_WORDS: usize = 16;
 const ALL: u64 = 0xffff_ffff_ffff_ffff;
 
 // Is block b set? None is from 1,024 on.
-pub fn is_in(words: &[u64], b: usize) -> bool
+pub fn is_in(words: &[u64], block: BlockNumber) -> bool
     requires { ⌜ length (now words) ≡ tableLength ⌝ }
-    ensures { λ r. ⌜ r ≡ bitAt (now (words .entry)) b ⌝ }
+    ensures { λ r. ⌜ r ≡ bitAt (now (words .entry)) (block .0) ⌝ }
 {
+    let b = block.0 as usize;
     if b < BLOCKS {
         let word = words[b / 64];
         let k = (b % 64) as u64;
@@ -58,11 +60,12 @@ fn word_with(word: u64, i: usize, from: usize, n: usize, on: bool) -> u64
     set ^ run
 }
 
-// The n blocks from `from` on are set or not, where they lie.
-pub fn with_run(words: &mut [u64], from: usize, n: usize, on: bool)
-    requires { ⌜ (length (now words) ≡ tableLength) × (from + n ≤ mostBlocks) ⌝ }
-    ensures { λ _. ⌜ now (words .exit) ≡ turned (now (words .entry)) from n on ⌝ }
+// The n blocks from `first` on are set or not, where they lie.
+pub fn with_run(words: &mut [u64], first: BlockNumber, n: usize, on: bool)
+    requires { ⌜ (length (now words) ≡ tableLength) × (first .0 + n ≤ mostBlocks) ⌝ }
+    ensures { λ _. ⌜ now (words .exit) ≡ turned (now (words .entry)) (first .0) n on ⌝ }
 {
+    let from = first.0 as usize;
     let end = from + n;
     let mut i = from / 64;
     while i * 64 < end {
@@ -78,14 +81,15 @@ pub fn clear(words: &mut [u64])
     requires { ⌜ length (now words) ≡ tableLength ⌝ }
     ensures { λ _. ⌜ now (words .exit) ≡ replicate tableLength 0 ⌝ }
 {
-    with_run(words, 0, BLOCKS, false);
+    with_run(words, BlockNumber(0), BLOCKS, false);
 }
 
-// Are the n blocks from `from` on all set, or all not set? Then turning them so changes no word.
-fn run_is(words: &[u64], from: usize, n: usize, on: bool) -> bool
-    requires { ⌜ (length (now words) ≡ tableLength) × (from + n ≤ mostBlocks) ⌝ }
-    ensures { λ r. ⌜ r ≡ eqb (heldIn (now (words .entry)) from n) (cond on n 0) ⌝ }
+// Are the n blocks from `first` on all set, or all not set? Then turning them so changes no word.
+fn run_is(words: &[u64], first: BlockNumber, n: usize, on: bool) -> bool
+    requires { ⌜ (length (now words) ≡ tableLength) × (first .0 + n ≤ mostBlocks) ⌝ }
+    ensures { λ r. ⌜ r ≡ eqb (heldIn (now (words .entry)) (first .0) n) (cond on n 0) ⌝ }
 {
+    let from = first.0 as usize;
     let end = from + n;
     let mut i = from / 64;
     while i * 64 < end {
@@ -99,20 +103,20 @@ fn run_is(words: &[u64], from: usize, n: usize, on: bool) -> bool
     true
 }
 
-// Is none of the n blocks from `from` on set?
-pub fn none_set(words: &[u64], from: usize, n: usize) -> bool
-    requires { ⌜ (length (now words) ≡ tableLength) × (from + n ≤ mostBlocks) ⌝ }
-    ensures { λ r. ⌜ r ≡ eqb (heldIn (now (words .entry)) from n) 0 ⌝ }
+// Is none of the n blocks from `first` on set?
+pub fn none_set(words: &[u64], first: BlockNumber, n: usize) -> bool
+    requires { ⌜ (length (now words) ≡ tableLength) × (first .0 + n ≤ mostBlocks) ⌝ }
+    ensures { λ r. ⌜ r ≡ eqb (heldIn (now (words .entry)) (first .0) n) 0 ⌝ }
 {
-    run_is(words, from, n, false)
+    run_is(words, first, n, false)
 }
 
-// Is each of the n blocks from `from` on set?
-pub fn all_set(words: &[u64], from: usize, n: usize) -> bool
-    requires { ⌜ (length (now words) ≡ tableLength) × (from + n ≤ mostBlocks) ⌝ }
-    ensures { λ r. ⌜ r ≡ eqb (heldIn (now (words .entry)) from n) n ⌝ }
+// Is each of the n blocks from `first` on set?
+pub fn all_set(words: &[u64], first: BlockNumber, n: usize) -> bool
+    requires { ⌜ (length (now words) ≡ tableLength) × (first .0 + n ≤ mostBlocks) ⌝ }
+    ensures { λ r. ⌜ r ≡ eqb (heldIn (now (words .entry)) (first .0) n) n ⌝ }
 {
-    run_is(words, from, n, true)
+    run_is(words, first, n, true)
 }
 
 // How many bits of a word are set, by the language's own count of ones. That it is this number is proved once, for every
@@ -132,10 +136,7 @@ pub fn total(words: &[u64]) -> u64
 {
     let mut count: u64 = 0;
     for i in 0..TABLE_WORDS {
-        let word = words[i];
-        if word != 0 {
-            count += ones(word);
-        }
+        count += ones(words[i]);
     }
     count
 }

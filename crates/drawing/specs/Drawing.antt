@@ -1,12 +1,12 @@
 -- The drawing of a map, character by character, after source 001's: the address line, a row for each region from the root down, and the flat view below. Assumes nothing: these are definitions.
-use mathlib.Core.Bool.{cond}
+use mathlib.Core.Bool.{cond, _||_}
 use mathlib.Core.List.{List, [], _∷_, _++_}
 use Prim.Native.Nat.{ℕ, zero, suc, _+_, _-_, _*_, _/_, _%_, _<_}
 use lib.Dec.{eqb, ltb}
 use lib.ListN.{getD}
 use Rattle.listing.specs.Text.{hexText, refusedText}
 use Rattle.map_records.specs.Words.{mapOf}
-use Rattle.map_records.specs.Map.{container, ram, mmio, alias, region}
+use Rattle.map_records.specs.Map.{container, ram, mmio, alias, managed, hasMemory, region}
 use Rattle.map_check.specs.Reply.{ifAccepted}
 use Rattle.map_check.specs.Check.{Accepted}
 use Rattle.region_map.specs.Walk.{walkRoot}
@@ -59,14 +59,14 @@ flatText = 0x20 ∷ 0x66 ∷ 0x6c ∷ 0x61 ∷ 0x74 ∷ 0x20 ∷ 0x76 ∷ 0x69 �
 abbrev pub asideText : List ℕ
 asideText = 0x6e ∷ 0x6f ∷ 0x74 ∷ 0x20 ∷ 0x75 ∷ 0x6e ∷ 0x64 ∷ 0x65 ∷ 0x72 ∷ 0x20 ∷ 0x74 ∷ 0x68 ∷ 0x65 ∷ 0x20 ∷ 0x72 ∷ 0x6f ∷ 0x6f ∷ 0x74 ∷ []
 
--- `container`, `ram`, `mmio`, `alias`, `managed`
+-- `container`, `ram`, `mmio`, `alias`, `managed`; no other kind has a name
 unfoldable pub kindText : ℕ → List ℕ
 kindText kind =
     cond (eqb kind container) (0x63 ∷ 0x6f ∷ 0x6e ∷ 0x74 ∷ 0x61 ∷ 0x69 ∷ 0x6e ∷ 0x65 ∷ 0x72 ∷ [])
     (cond (eqb kind ram) (0x72 ∷ 0x61 ∷ 0x6d ∷ [])
     (cond (eqb kind mmio) (0x6d ∷ 0x6d ∷ 0x69 ∷ 0x6f ∷ [])
     (cond (eqb kind alias) (0x61 ∷ 0x6c ∷ 0x69 ∷ 0x61 ∷ 0x73 ∷ [])
-    (0x6d ∷ 0x61 ∷ 0x6e ∷ 0x61 ∷ 0x67 ∷ 0x65 ∷ 0x64 ∷ []))))
+    (cond (eqb kind managed) (0x6d ∷ 0x61 ∷ 0x6e ∷ 0x61 ∷ 0x67 ∷ 0x65 ∷ 0x64 ∷ []) []))))
 
 -- ---- the labels, 13 characters
 
@@ -94,9 +94,13 @@ addressCell size c = letterOf (hexText (columnAddress size (c / 16 * 16))) (c % 
 abbrev pub rulerCell : ℕ → ℕ
 rulerCell c = cond (eqb (c % 16) 0) 0x7c 0x2d
 
--- a region's own number; `-` for a container and `=` for an alias, which answer at no address themselves
+-- `-` for a container and `=` for an alias, which answer at no address themselves; else the region's own number
+abbrev pub kindFill : ℕ → ℕ → ℕ
+kindFill kind n =
+    cond (eqb kind container) 0x2d (cond (eqb kind alias) 0x3d (cond (hasMemory kind || eqb kind mmio) (digitOf n) 0x3f))
+
 unfoldable pub fill : RegionMap → ℕ → ℕ
-fill m n = cond (eqb (region m n .kind) container) 0x2d (cond (eqb (region m n .kind) alias) 0x3d (digitOf n))
+fill m n = kindFill (region m n .kind) n
 
 -- Region n's row, from where the column's address lies and where the addresses up to the next column's lie: filled where the address lies inside n and all regions above it, hidden or not; `+` where only a later address of the column does; else a space. A region that does not stand under the root has these words.
 abbrev pub laterCell : Position → ℕ

@@ -17,6 +17,8 @@ use crate::row::Row;
 use map_records::map::ALIAS;
 use map_records::map::CONTAINER;
 use map_records::map::GuestAddress;
+use map_records::map::MMIO;
+use map_records::map::has_memory;
 use map_records::words::region_at;
 use map_records::words::region_count;
 use region_map::resolve::Resolution;
@@ -63,7 +65,10 @@ fn fill(map: &[u64], n: usize) -> u8
     if region.kind == ALIAS {
         return b'=';
     }
-    digit(n)
+    if has_memory(region.kind) | (region.kind == MMIO) {
+        return digit(n);
+    }
+    b'?'
 }
 
 // A column whose own address lies outside the region.

@@ -9,6 +9,7 @@ ghost use Rattle.map_records.specs.Limits.{mapLength, mostRegions};
 use crate::row::Row;
 use map_records::map::ALIAS;
 use map_records::map::CONTAINER;
+use map_records::map::MANAGED;
 use map_records::map::MMIO;
 use map_records::map::RAM;
 use map_records::words::region_at;
@@ -52,7 +53,10 @@ fn kind_letter(kind: u64, i: usize) -> u8
     if kind == ALIAS {
         return letter(b"alias", i);
     }
-    letter(b"managed", i)
+    if kind == MANAGED {
+        return letter(b"managed", i);
+    }
+    b' '
 }
 
 // Character k of the label of region n: its number, then its kind.

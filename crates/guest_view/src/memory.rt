@@ -12,8 +12,8 @@ use crate::place::offset_in;
 use crate::place::place_of;
 use device_words::bytes::copy_bytes;
 use device_words::bytes::number_at;
-use device_words::bytes::wide;
 use map_records::map::GuestAddress;
+use map_records::numbers::wide;
 use map_records::words::range_at;
 
 // A byte's memory place, and how many bytes after it follow it there.

@@ -8,7 +8,7 @@ ghost use Rattle.guest_view.specs.Contracts.{Judged, Table, Extends, Rea
 ghost use Rattle.map_records.specs.Limits.{limit};
 use crate::find::near;
 use crate::place::offset_in;
-use device_words::device::block_of;
+use device_words::block::block_of;
 use device_words::table::BLOCKS;
 use device_words::table::all_set;
 use device_words::table::is_in;
@@ -29,13 +29,12 @@ pub enum Extent {
 }
 
 // Is the byte at an offset of the managed region in a plugged block? The table has 1,024.
-pub fn is_plugged(block: u64, plugged: &[u64], offset: RegionOffset) -> bool
+pub fn byte_plugged(block: u64, plugged: &[u64], offset: RegionOffset) -> bool
     requires { ⌜ Table block (now plugged) ⌝ }
     ensures { λ r. ⌜ r ≡ pluggedIn block (now (plugged .entry)) (offset .0) ⌝ }
 {
     if offset.0 / block < BLOCKS as u64 {
-        let number = block_of(block, offset);
-        return is_in(plugged, number.0 as usize);
+        return is_in(plugged, block_of(block, offset));
     }
     false
 }
@@ -51,7 +50,7 @@ fn run_plugged(block: u64, plugged: &[u64], offset: RegionOffset, more: u64) -> 
         let first = block_of(block, offset);
         let last = block_of(block, end);
         let count = (last.0 - first.0) as usize + 1;
-        return all_set(plugged, first.0 as usize, count);
+        return all_set(plugged, first, count);
     }
     false
 }
@@ -78,7 +77,7 @@ fn how_far(
         if run_plugged(block, plugged, offset, far) {
             return Extent::Go(far);
         }
-        if is_plugged(block, plugged, offset) {
+        if byte_plugged(block, plugged, offset) {
             let left = block - 1 - offset.0 % block;
             return Extent::Go(least(left, span));
         }

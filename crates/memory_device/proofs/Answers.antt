@@ -19,8 +19,8 @@ use Rattle.memory_device.specs.declared.device.MemoryDevice as value
 use Rattle.memory_device.specs.declared.host.Configuration.{Configuration}
 use Rattle.memory_device.specs.declared.request.Carried.{Carried}
 use Rattle.memory_device.specs.declared.setup.SetUp.{SetUp}
-use Rattle.memory_device.specs.declared.lent.ByteBlock.{ByteBlock}
-use Rattle.memory_device.specs.declared.lent.ByteBlock.the-variants as found
+use Rattle.memory_device.specs.declared.calls.ByteBlock.{ByteBlock}
+use Rattle.memory_device.specs.declared.calls.ByteBlock.the-variants as found
 use Rattle.memory_device.specs.declared.setup.SetUpAnswer.{SetUpAnswer}
 use Rattle.memory_device.specs.declared.setup.SetUpAnswer.the-variants.{Checked, Values}
 

@@ -9,7 +9,7 @@ use lib.Dec.{eqb, ltb}
 use borrow.Author.Tests.{le-leb, ltb-false, eqb-true, not-false, eq-eqb}
 use Rattle.map_check.proofs.Bools.{never, and-fst, and-snd, or-left, or-right}
 use Rattle.device_words.specs.Table.{bitAt}
-use Rattle.device_words.specs.Device.{MemoryDevice, isPinned, withTables, withPins, withPin, noBlocks, setupOk, blockOk, regionOk, addrOk, sizesOk, deviceOk}
+use Rattle.device_words.specs.Device.{MemoryDevice, isPinned, withTables, withPins, withPin, noPlugs, noPins, setupOk, blockOk, regionOk, addrOk, sizesOk, deviceOk}
 use Rattle.device_words.specs.Request.{requestOf, carriedOut}
 use Rattle.device_words.proofs.TableLaws.{zero-bit}
 use Rattle.device_words.proofs.RuleLaws.{device-valid, blocks-mono}
@@ -50,7 +50,7 @@ resized-setup d size h whole fits =
 -- the host's calls
 pub reset-kept : (d : MemoryDevice) → deviceOk d ≡ true → deviceOk (systemReset d .device) ≡ true
 unfolding systemReset
-reset-kept d h = rw h (device-ok (withTables d noBlocks noBlocks) (setup-of d h) (λ b l e. absurd (never (sym e ∙ zero-bit b))) (λ b l e. absurd (never (sym e ∙ zero-bit b))))
+reset-kept d h = rw h (device-ok (withTables d noPlugs noPins) (setup-of d h) (λ b l e. absurd (never (sym e ∙ zero-bit b))) (λ b l e. absurd (never (sym e ∙ zero-bit b))))
 
 -- of two outcomes
 either : (x : Bool) (a b : HostOutcome) → (x ≡ true → deviceOk (a .device) ≡ true) → (x ≡ false → deviceOk (b .device) ≡ true) → deviceOk (cond x a b .device) ≡ true

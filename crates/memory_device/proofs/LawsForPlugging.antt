@@ -30,8 +30,8 @@ use Rattle.map_check.specs.Reply.{accepted, passes}
 use Rattle.map_check.proofs.Bools.{never}
 use Rattle.device_words.specs.Bytes.{le, numberBy, leNumber, responseBytes}
 use Rattle.device_words.specs.Table.{IsTable}
-use Rattle.device_words.specs.Device.{MemoryDevice, withPlugged, deviceOk}
-use Rattle.device_words.specs.Request.{RequestOutcome, plugType, unplugType, requestOf, bytesOf, forRun, plugRun, unplugRun, typeOf, stateOf, inRange, alreadyPlugged, overRequested, answered, isAck, tableAfterAck, changedBy, carriedOut}
+use Rattle.device_words.specs.Device.{MemoryDevice, withPlugged, deviceOk, sizesOf}
+use Rattle.device_words.specs.Request.{RequestOutcome, plugType, unplugType, requestOf, bytesOf, forRun, plugRun, unplugRun, typeOf, stateOf, inRange, alreadyPlugged, overRequested, answered, isAck, tableAfterAck, carriedOut, blockOf, nothingFurther, pinMet, answeredBy, tableBy}
 use Rattle.device_words.specs.Words.{deviceOf, deviceWords, deviceLength}
 use Rattle.device_words.specs.declared.request.Request.{Request}
 use Rattle.device_words.specs.declared.request.Response.the-variants as response
@@ -60,15 +60,15 @@ acked-is : (d : MemoryDevice) → Acknowledged (acked d)
 unfolding numberBy responseBytes le
 acked-is d = refl
 
-carried-acked : (d : MemoryDevice) (r : Request) → answered d r ≡ response.Ack → carriedOut d r ≡ acked (withPlugged d (tableAfterAck d r))
-unfolding changedBy
+carried-acked : (d : MemoryDevice) (r : Request) → answered d r ≡ response.Ack → carriedOut d r ≡ acked (withPlugged d (tableAfterAck (sizesOf d) (d .plugged) r))
+unfolding tableBy
 carried-acked d r e = rw e
 
 -- ---- a PLUG on a record that passes 27
 module _ (d : MemoryDevice) (h : deviceOk d ≡ true) (a n : ℕ) (s : List ℕ) (e : requestOf s ≡ plugRun a n) where
   plugs-of : Acknowledged (carried d s) → Plugs d a n
-  unfolding answered numberBy responseBytes le
-  plugs-of k = ack-plugs d a n (go (inRange d (plugRun a n)) (alreadyPlugged d (plugRun a n)) (overRequested d (plugRun a n)) (rw (on-valid d s (plugRun a n) h e) at k))
+  unfolding answeredBy numberBy responseBytes le
+  plugs-of k = ack-plugs d a n (go (inRange (sizesOf d) (plugRun a n)) (alreadyPlugged (d .plugged) (blockOf (sizesOf d) a) n) (overRequested (sizesOf d) (d .plugged) n) (rw (on-valid d s (plugRun a n) h e) at k))
     where
       go : (x y z : Bool) → eqb (leNumber (responseBytes (typeOf (byChecks x y z)) (stateOf (byChecks x y z))) 0 2) 0 ≡ true → isAck (byChecks x y z) ≡ true
       go true true z q = absurd (never (sym q))
@@ -143,10 +143,10 @@ behind-whole d a n s e k = go (deviceOk d) refl
     go false h = absurd (refused d s h k)
 
 pub past-the-end : (d : MemoryDevice) (a n : ℕ) (s : List ℕ) → deviceOk d ≡ true → requestOf s ≡ plugRun a n → 2 ^ 64 ≤ a + n * d .«block_size» → carried d s .response ≡ responseBytes 3 0
-past-the-end d a n s h e l = rw (on-valid d s (plugRun a n) h e, ← out-answer d (plugRun a n) (λ (z : _≡_ {A = ℕ} 0 2). omega arith) (go (inRange d (plugRun a n)) refl))
+past-the-end d a n s h e l = rw (on-valid d s (plugRun a n) h e, ← out-answer nothingFurther (sizesOf d) (pinMet d (plugRun a n)) (d .plugged) (plugRun a n) (λ (z : _≡_ {A = ℕ} 0 2). omega arith) (go (inRange (sizesOf d) (plugRun a n)) refl))
   where
-    go : (x : Bool) → inRange d (plugRun a n) ≡ x → x ≡ false
-    go true i = let v = device-valid d h in absurd (omega (arith, in-above d (plugRun a n) i, in-end d (plugRun a n) i, v .usable, v .end))
+    go : (x : Bool) → inRange (sizesOf d) (plugRun a n) ≡ x → x ≡ false
+    go true i = let v = device-valid d h in absurd (omega (arith, in-above (sizesOf d) (plugRun a n) i, in-end (sizesOf d) (plugRun a n) i, v .usable, v .end))
     go false i = refl
 
 -- ---- the second law

@@ -1,6 +1,6 @@
 pub mod Answers
 pub mod Kept
 pub mod LawsForPlugging
-mod LentLaws
+mod CallLaws
 pub mod Plugged
 mod SetUpLaws

@@ -6,9 +6,9 @@ use Prim.Native.Nat.{ℕ, _<_}
 use lib.Dec.{eqb, ltb}
 use Rattle.map_check.proofs.Bools.{never}
 use Rattle.device_words.specs.Bytes.{le, leNumber, numberBy, responseBytes}
-use Rattle.device_words.specs.Table.{bitAt, within}
-use Rattle.device_words.specs.Device.{MemoryDevice, isPinned, anyPinned, noBlocks, withPins, withPin, deviceOk}
-use Rattle.device_words.specs.Request.{requestOf, typeOf, stateOf, blockOf, inRange, heldOf, alreadyPlugged, overRequested, plugAnswer, unplugAnswer, unplugAllAnswer, stateAnswer, ranged, answered, withRun, tableAfterAck, changedBy}
+use Rattle.device_words.specs.Table.{bitAt, within, heldIn}
+use Rattle.device_words.specs.Device.{MemoryDevice, isPinned, sizesOf, noPlugs, withPins, withPin, deviceOk}
+use Rattle.device_words.specs.Request.{requestOf, typeOf, stateOf, blockOf, inRange, alreadyPlugged, overRequested, plugAnswer, unplugAnswer, unplugAllAnswer, stateAnswer, ranged, pinMet, answeredBy, answered, withRun, tableAfterAck, tableBy, changedBy}
 use Rattle.device_words.specs.declared.request.Request.{Request}
 use Rattle.device_words.specs.declared.request.Response.{Response}
 use Rattle.device_words.specs.declared.request.Response.the-variants.{Ack, Nack, Busy, Error, Plugged, Unplugged, Mixed}
@@ -19,18 +19,18 @@ use Rattle.memory_device.specs.Calls.{Call, request, resize, pin, unpin,
 use Rattle.memory_device.proofs.Kept.{reset-kept, pin-kept, unpin-kept, resize-kept, carry-kept}
 
 -- the table after an acknowledged request, block by block
-acknowledged-bit : (d : MemoryDevice) (r : Request) (had : ℕ → Bool) (b : ℕ) → b < 1024 → bitAt (d .plugged) b ≡ had b → bitAt (tableAfterAck d r) b ≡ afterAck d r had b
+acknowledged-bit : (d : MemoryDevice) (r : Request) (had : ℕ → Bool) (b : ℕ) → b < 1024 → bitAt (d .plugged) b ≡ had b → bitAt (tableAfterAck (sizesOf d) (d .plugged) r) b ≡ afterAck d r had b
 acknowledged-bit d r had b l e = go (eqb (r .kind) 0) (eqb (r .kind) 1) (eqb (r .kind) 2)
   where
     run : Bool → ℕ → Bool
-    run on c = cond (within (blockOf d (r .addr .0)) (r .blocks) c) on (bitAt (d .plugged) c)
+    run on c = cond (within (blockOf (sizesOf d) (r .addr .0)) (r .blocks) c) on (bitAt (d .plugged) c)
 
-    set-bit : (on : Bool) → bitAt (withRun d r on) b ≡ cond (within (blockOf d (r .addr .0)) (r .blocks) b) on (had b)
-    set-bit on = table-bit (run on) b l ∙ ap (λ (x : Bool). cond (within (blockOf d (r .addr .0)) (r .blocks) b) on x) e
+    set-bit : (on : Bool) → bitAt (withRun (sizesOf d) (d .plugged) r on) b ≡ cond (within (blockOf (sizesOf d) (r .addr .0)) (r .blocks) b) on (had b)
+    set-bit on = table-bit (run on) b l ∙ ap (λ (x : Bool). cond (within (blockOf (sizesOf d) (r .addr .0)) (r .blocks) b) on x) e
 
     go : (x y z : Bool)
-        → bitAt (cond x (withRun d r true) (cond y (withRun d r false) (cond z noBlocks (d .plugged)))) b
-        ≡ cond x (cond (within (blockOf d (r .addr .0)) (r .blocks) b) true (had b)) (cond y (cond (within (blockOf d (r .addr .0)) (r .blocks) b) false (had b)) (cond z false (had b)))
+        → bitAt (cond x (withRun (sizesOf d) (d .plugged) r true) (cond y (withRun (sizesOf d) (d .plugged) r false) (cond z noPlugs (d .plugged)))) b
+        ≡ cond x (cond (within (blockOf (sizesOf d) (r .addr .0)) (r .blocks) b) true (had b)) (cond y (cond (within (blockOf (sizesOf d) (r .addr .0)) (r .blocks) b) false (had b)) (cond z false (had b)))
     go true y z = set-bit true
     go false true z = set-bit false
     go false false true = zero-bit b
@@ -47,11 +47,11 @@ isState Unplugged = true
 isState Mixed = true
 
 state-takes-none : (d : MemoryDevice) (r : Request) (had : ℕ → Bool) (b : ℕ) → isState (answered d r) ≡ true → afterAck d r had b ≡ had b
-unfolding answered
+unfolding answeredBy
 state-takes-none d r had b h = go (eqb (r .kind) 0) (eqb (r .kind) 1) (eqb (r .kind) 2) h
   where
     run : Bool → Bool
-    run on = cond (within (blockOf d (r .addr .0)) (r .blocks) b) on (had b)
+    run on = cond (within (blockOf (sizesOf d) (r .addr .0)) (r .blocks) b) on (had b)
 
     none : (i j k : Bool) (y : Response) → isState y ≡ false → isState (cond i (cond j Error (cond k y Ack)) Error) ≡ false
     none true true k y f = refl
@@ -60,12 +60,13 @@ state-takes-none d r had b h = go (eqb (r .kind) 0) (eqb (r .kind) 1) (eqb (r .k
     none false j k y f = refl
 
     go : (x y z : Bool)
-        → isState (cond x (ranged d r (plugAnswer d r)) (cond y (ranged d r (unplugAnswer d r)) (cond z (unplugAllAnswer d) (cond (eqb (r .kind) 3) (ranged d r (stateAnswer d r)) Error)))) ≡ true
+        → isState (cond x (ranged (sizesOf d) r (plugAnswer Ack (sizesOf d) (d .plugged))) (cond y (ranged (sizesOf d) r (unplugAnswer (pinMet d r) (d .plugged)))
+        (cond z (unplugAllAnswer (pinMet d r)) (cond (eqb (r .kind) 3) (ranged (sizesOf d) r (stateAnswer (d .plugged))) Error)))) ≡ true
         → cond x (run true) (cond y (run false) (cond z false (had b))) ≡ had b
-    go true y z h = absurd (never (sym h ∙ none (inRange d r) (alreadyPlugged d r) (overRequested d r) Nack refl))
+    go true y z h = absurd (never (sym h ∙ none (inRange (sizesOf d) r) (alreadyPlugged (d .plugged) (blockOf (sizesOf d) (r .addr .0)) (r .blocks)) (overRequested (sizesOf d) (d .plugged) (r .blocks)) Nack refl))
     go false true z h =
-        absurd (never (sym h ∙ none (inRange d r) (ltb (heldOf d r (d .plugged)) (r .blocks)) (anyPinned d (blockOf d (r .addr .0)) (r .blocks)) Busy refl))
-    go false false true h = absurd (never (sym h ∙ none true false (anyPinned d 0 1024) Busy refl))
+        absurd (never (sym h ∙ none (inRange (sizesOf d) r) (ltb (heldIn (d .plugged) (blockOf (sizesOf d) (r .addr .0)) (r .blocks)) (r .blocks)) (pinMet d r) Busy refl))
+    go false false true h = absurd (never (sym h ∙ none true false (pinMet d r) Busy refl))
     go false false false h = refl
 
 -- what a refusal or another answer leaves
@@ -81,7 +82,7 @@ module _ (d : MemoryDevice) (had : ℕ → Bool) (b : ℕ) (l : b < 1024) (e : b
   -- by the answer: a STATE's is an ACK too, and takes no block in or out
   answer-bit : (r : Request) (x : Response) → (isState x ≡ true → afterAck d r had b ≡ had b)
       → bitAt (changedBy d r x .plugged) b ≡ cond (eqb (leNumber (responseBytes (typeOf x) (stateOf x)) 0 2) 0) (afterAck d r had b) (had b)
-  unfolding changedBy numberBy responseBytes le
+  unfolding tableBy numberBy responseBytes le
   answer-bit r Ack f = acknowledged-bit d r had b l e
   answer-bit r Nack f = e
   answer-bit r Busy f = e

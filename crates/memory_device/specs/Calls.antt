@@ -6,7 +6,7 @@ use lib.Dec.{eqb}
 use Rattle.map_check.specs.Reply.{passes}
 use Rattle.device_words.specs.Bytes.{leNumber}
 use Rattle.device_words.specs.Table.{within}
-use Rattle.device_words.specs.Device.{MemoryDevice, deviceOk}
+use Rattle.device_words.specs.Device.{MemoryDevice, sizesOf, deviceOk}
 use Rattle.device_words.specs.Request.{RequestOutcome, plugType, unplugType, unplugAllType, requestOf, blockOf}
 use Rattle.device_words.specs.declared.request.Request.{Request}
 use Rattle.memory_device.specs.Host.{resized, pinBlock, unpinBlock, systemReset}
@@ -35,8 +35,8 @@ acknowledges o = passes (o .reply) && eqb (leNumber (o .response) 0 2) 0
 -- the blocks held after an acknowledged request, where `had` were held before
 abbrev pub afterAck : MemoryDevice → Request → (ℕ → Bool) → ℕ → Bool
 afterAck d r had b =
-    cond (eqb (r .kind) plugType) (cond (within (blockOf d (r .addr .0)) (r .blocks) b) true (had b))
-    (cond (eqb (r .kind) unplugType) (cond (within (blockOf d (r .addr .0)) (r .blocks) b) false (had b)) (cond (eqb (r .kind) unplugAllType) false (had b)))
+    cond (eqb (r .kind) plugType) (cond (within (blockOf (sizesOf d) (r .addr .0)) (r .blocks) b) true (had b))
+    (cond (eqb (r .kind) unplugType) (cond (within (blockOf (sizesOf d) (r .addr .0)) (r .blocks) b) false (had b)) (cond (eqb (r .kind) unplugAllType) false (had b)))
 
 -- the blocks acknowledged in less those acknowledged out, one call further; a system reset gives all back
 abbrev pub ledgerAfter : MemoryDevice → (ℕ → Bool) → Call → ℕ → Bool

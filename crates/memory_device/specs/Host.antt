@@ -11,8 +11,8 @@ use Rattle.device_words.specs.Device.{MemoryDevice, isPinned, withPins, withPin
 use Rattle.memory_device.specs.Record.{HostOutcome, hostReply}
 use Rattle.map_records.specs.Refusal as refusal
 use Rattle.memory_device.specs.declared.host.Configuration.{Configuration}
-use Rattle.memory_device.specs.declared.lent.ByteBlock.{ByteBlock}
-use Rattle.memory_device.specs.declared.lent.ByteBlock.the-variants.{At, Outside, Record}
+use Rattle.memory_device.specs.declared.calls.ByteBlock.{ByteBlock}
+use Rattle.memory_device.specs.declared.calls.ByteBlock.the-variants.{At, Outside, Record}
 
 -- a refusal gives the state back as it was
 abbrev pub hostRefusal : ℕ → MemoryDevice → HostOutcome

@@ -2,6 +2,6 @@ pub mod Record
 pub mod SetUp
 pub mod Host
 pub mod Request
-pub mod Lent
+pub mod Leaves
 pub mod Calls
 pub mod LawsForPlugging

@@ -7,7 +7,7 @@ use Rattle.map_check.specs.Reply.{Reply, accepted, plain, ifAccepted}
 use Rattle.map_check.specs.Check.{reply, judged}
 use Rattle.map_records.specs.Refusal as refusal
 use Rattle.map_records.specs.declared.map.RegionMap.{RegionMap}
-use Rattle.device_words.specs.Device.{MemoryDevice, noBlocks, noDevice, setupOk}
+use Rattle.device_words.specs.Device.{MemoryDevice, noPlugs, noPins, noDevice, setupOk}
 use Rattle.memory_device.specs.Record.{HostOutcome, recordOf}
 use Rattle.memory_device.specs.declared.setup.DeviceValues.{DeviceValues}
 use Rattle.memory_device.specs.declared.setup.SetUpAnswer.{SetUpAnswer}
@@ -32,8 +32,8 @@ freshDevice v region =
       «region_size» = region;
       «usable_size» = v .«usable_size»;
       «requested_size» = v .«requested_size»;
-      plugged = noBlocks;
-      pinned = noBlocks;
+      plugged = noPlugs;
+      pinned = noPins;
     }
 
 -- a refusal has the record of zeros

@@ -3,15 +3,15 @@ ghost use mathlib.Core.Path.{_≡_};
 ghost use Rattle.device_words.specs.Device.{deviceOk};
 ghost use Rattle.memory_device.specs.Record.{recordOf, hostOutcomeOf};
 ghost use Rattle.memory_device.specs.Host.{resized, pinBlock, unpinBlock, systemReset, configured, readOf, byteBlock, byteOf};
+use crate::calls;
+use crate::calls::ByteBlock;
 use crate::device::Changed;
 use crate::device::HostAnswer;
 use crate::device::MemoryDevice;
 use crate::device::device_of;
 use crate::device::words_of;
-use crate::lent;
-use crate::lent::ByteBlock;
+use device_words::block::BlockNumber;
 use device_words::bytes::CONFIGURATION_BYTES;
-use device_words::device::BlockNumber;
 use device_words::rules::device_ok;
 use map_records::map::RegionOffset;
 
@@ -35,7 +35,7 @@ impl MemoryDevice {
         ensures { λ r. ⌜ hostOutcomeOf r ≡ resized (recordOf self) size ⌝ }
     {
         let mut words = words_of(self);
-        let answer = lent::set_requested_size(&mut words, size);
+        let answer = calls::set_requested_size(&mut words, size);
         let device = device_of(&words);
         Changed {
             answer: answer,
@@ -48,7 +48,7 @@ impl MemoryDevice {
         ensures { λ r. ⌜ hostOutcomeOf r ≡ systemReset (recordOf self) ⌝ }
     {
         let mut words = words_of(self);
-        let answer = lent::system_reset(&mut words);
+        let answer = calls::system_reset(&mut words);
         let device = device_of(&words);
         Changed {
             answer: answer,
@@ -61,7 +61,7 @@ impl MemoryDevice {
         ensures { λ r. ⌜ hostOutcomeOf r ≡ pinBlock (recordOf self) (block .0) ⌝ }
     {
         let mut words = words_of(self);
-        let answer = lent::pin(&mut words, block.0 as u64);
+        let answer = calls::pin(&mut words, block.0 as u64);
         let device = device_of(&words);
         Changed {
             answer: answer,
@@ -74,7 +74,7 @@ impl MemoryDevice {
         ensures { λ r. ⌜ hostOutcomeOf r ≡ unpinBlock (recordOf self) (block .0) ⌝ }
     {
         let mut words = words_of(self);
-        let answer = lent::unpin(&mut words, block.0 as u64);
+        let answer = calls::unpin(&mut words, block.0 as u64);
         let device = device_of(&words);
         Changed {
             answer: answer,
@@ -88,7 +88,7 @@ impl MemoryDevice {
     {
         let words = words_of(self);
         let mut bytes = [0u8; CONFIGURATION_BYTES];
-        let answer = lent::configuration(&words, &mut bytes);
+        let answer = calls::configuration(&words, &mut bytes);
         Configuration {
             answer: answer,
             bytes: bytes,
@@ -100,6 +100,6 @@ impl MemoryDevice {
         ensures { λ r. ⌜ byteOf r ≡ byteBlock (recordOf self) (offset .0) ⌝ }
     {
         let words = words_of(self);
-        lent::block_of_byte(&words, offset)
+        calls::block_of_byte(&words, offset)
     }
 }

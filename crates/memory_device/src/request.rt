@@ -2,11 +2,11 @@
 ghost use mathlib.Core.Path.{_≡_};
 ghost use Rattle.memory_device.specs.Record.{recordOf};
 ghost use Rattle.memory_device.specs.Request.{requestOutcomeOf, carried};
+use crate::calls;
 use crate::device::HostAnswer;
 use crate::device::MemoryDevice;
 use crate::device::device_of;
 use crate::device::words_of;
-use crate::lent;
 use device_words::bytes::REQUEST_BYTES;
 use device_words::bytes::RESPONSE_BYTES;
 
@@ -25,7 +25,7 @@ impl MemoryDevice {
     {
         let mut words = words_of(self);
         let mut response = [0u8; RESPONSE_BYTES];
-        let answer = lent::carry_out(&mut words, bytes, &mut response);
+        let answer = calls::carry_out(&mut words, bytes, &mut response);
         let device = device_of(&words);
         Carried {
             answer: answer,

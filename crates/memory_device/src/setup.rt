@@ -39,7 +39,7 @@ pub struct SetUp {
 }
 
 // The size of the managed region, or 0.
-fn region_size(map: &[u64]) -> u64
+fn managed_size(map: &[u64]) -> u64
     requires { ⌜ Counted (now map) ⌝ }
     ensures { λ r. ⌜ r ≡ regionSize (mapOf (now (map .entry))) ⌝ }
 {
@@ -60,7 +60,7 @@ pub fn set_up(map: &[u64], memory_length: u64, values: DeviceValues) -> SetUp
 {
     let answer = check_map(map, memory_length);
     if accepts(answer) {
-        let region = region_size(map);
+        let region = managed_size(map);
         let addr = values.addr;
         if setup_ok(
             values.block_size,

@@ -9,11 +9,12 @@ ghost use Rattle.device_words.specs.Words.{deviceAt, deviceWords, deviceLength}
 ghost use Rattle.memory_device.specs.Host.{sizeFault, withRequested, pinFault, configurationOf};
 ghost use Rattle.device_words.specs.Bytes.{configurationLength};
 ghost use Rattle.device_words.specs.Table.{mostBlocks};
+use device_words::block::BlockNumber;
 use device_words::bytes::put_configuration;
 use device_words::pins::is_pinned;
 use device_words::plugs::blocks_in;
 use device_words::plugs::is_plugged;
-use device_words::state::plugged_size;
+use device_words::plugs::plugged_size;
 use device_words::table::clear;
 use device_words::words::ADDR;
 use device_words::words::BLOCK_SIZE;
@@ -59,13 +60,13 @@ pub fn clear_tables(device: &mut [u64])
 }
 
 // Is the block in the region, plugged and not pinned?
-pub fn can_pin(device: &[u64], b: usize) -> bool
+pub fn can_pin(device: &[u64], b: BlockNumber) -> bool
     requires { ⌜ ValidWords (now device) ⌝ }
-    ensures value { λ r. ⌜ r ≡ not (pinFault (deviceAt (now (device .entry))) b) ⌝ }
-    ensures room { λ r. ⌜ (r ≡ true → b < mostBlocks) ⌝ }
+    ensures value { λ r. ⌜ r ≡ not (pinFault (deviceAt (now (device .entry))) (b .0)) ⌝ }
+    ensures room { λ r. ⌜ (r ≡ true → b .0 < mostBlocks) ⌝ }
 {
     let blocks = blocks_in(device, device[REGION_SIZE]);
-    (b < blocks) & (is_plugged(device, b) & !is_pinned(device, b))
+    ((b.0 as usize) < blocks) & (is_plugged(device, b) & !is_pinned(device, b))
 }
 
 // The configuration's bytes.
@@ -74,7 +75,7 @@ pub fn put_values(device: &[u64], out: &mut [u8])
     ensures { λ _. ⌜ now (out .exit) ≡ configurationOf (deviceAt (now (device .entry))) ⌝ }
 {
     let addr = GuestAddress(device[ADDR]);
-    let size = plugged_size(device);
+    let size = plugged_size(device[BLOCK_SIZE], &device[PLUGGED..PINNED]);
     put_configuration(
         out,
         device[BLOCK_SIZE],

@@ -1,4 +1,4 @@
--- Document 02's Req 07, 'Device windows lose by default': every map answers at every address as the old walk, document 01's, does for that map with field 127 at each MMIO region that has 0, and is judged as the old rules judged that map. Where no MMIO region has field 0 nothing changes. Assumes nothing.
+-- Document 02's Req 07, 'Device windows lose by default': every map answers at every address as the old walk, document 01's, does for that map with field 127 at each MMIO region that has 0, and is judged as that map is by the old meaning of the field. Where no MMIO region has field 0 nothing changes. Assumes nothing.
 use mathlib.Core.Path.{_≡_, refl, sym, ap, ap₂, _∙_, fun-ext}
 use mathlib.Core.Bool.{Bool, true, false, _&&_, cond}
 use mathlib.Core.List.{List}

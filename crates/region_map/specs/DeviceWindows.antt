@@ -10,7 +10,7 @@ use Rattle.map_records.specs.declared.map.Region.{Region}
 use Rattle.map_records.specs.declared.map.RegionMap.{RegionMap}
 use Rattle.map_records.specs.declared.map.Field.the-variants.{Priority}
 
--- Document 01: 'Priority field 0 means the default, priority 0', whatever the kind. The old walk is `walkRootBy oldPriority`, and the old check `judgedBy oldPriority`.
+-- Document 01: 'Priority field 0 means the default, priority 0', whatever the kind. The old walk is `walkRootBy oldPriority`. `judgedBy oldPriority` is the check by that meaning, with every other rule as it is now (11 as Req 02 has it).
 abbrev pub oldPriority : Region → ℕ
 oldPriority = priorityWith (λ kind. 128)
 

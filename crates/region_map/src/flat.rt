@@ -2,7 +2,7 @@
 // the order of their addresses.
 ghost use mathlib.Core.Path.{_≡_};
 ghost use mathlib.Core.List.{[]};
-ghost use Prim.Native.Nat.{_≤_, _<_};
+ghost use Prim.Native.Nat.{_-_, _≤_, _<_};
 ghost use lib.ListN.{length};
 ghost use Rattle.map_records.specs.View.{entries};
 ghost use Rattle.map_records.specs.Words.{mapOf, viewOf};
@@ -14,9 +14,10 @@ ghost use Rattle.region_map.specs.Pieces.{horizonOf};
 ghost use Rattle.map_records.specs.Limits.{mapLength, viewLength, mostRegions};
 use crate::pieces::AddressSpan;
 use crate::pieces::COUNT;
-use crate::pieces::HORIZON;
 use crate::pieces::WORDS;
 use crate::pieces::begin;
+use crate::pieces::horizon;
+use crate::pieces::nearer;
 use crate::pieces::piece_at;
 use crate::render::render;
 use crate::resolve::root_offset;
@@ -24,7 +25,6 @@ use map_records::map::GuestAddress;
 use map_records::map::MMIO;
 use map_records::map::Region;
 use map_records::map::has_memory;
-use map_records::numbers::least;
 use map_records::view::FlatRange;
 use map_records::view::RANGES;
 use map_records::words::count_of;
@@ -114,6 +114,14 @@ fn backing_of(map: &[u64], n: usize) -> Backing
     }
 }
 
+// The last of the addresses up to `end`, which is not one of them.
+fn last_before(end: GuestAddress) -> GuestAddress
+    requires { ⌜ 0 < end .0 ⌝ }
+    ensures { λ r. ⌜ r .0 ≡ end .0 - 1 ⌝ }
+{
+    GuestAddress(end.0 - 1)
+}
+
 // The pieces of a table, which is whole from where the view ends up to its horizon, put into the view.
 fn emit(map: &[u64], view: &mut [u64], table: &[u64]) -> bool
     requires { ⌜ Emits (now map) (now view) (now table) ⌝ }
@@ -124,13 +132,13 @@ fn emit(map: &[u64], view: &mut [u64], table: &[u64]) -> bool
     let mut i: usize = 0;
     while i < count {
         let p = piece_at(table, i);
-        let stop = least(p.end.0, table[HORIZON]);
+        let stop = nearer(p.end, horizon(table));
         let backing = backing_of(map, p.region);
         let first = p.first;
         let offset = p.offset;
         let range = FlatRange {
             first,
-            last: GuestAddress(stop - 1),
+            last: last_before(stop),
             region: p.region,
             offset,
             kind: backing.kind,
@@ -144,6 +152,13 @@ fn emit(map: &[u64], view: &mut [u64], table: &[u64]) -> bool
     false
 }
 
+// The addresses that the root has end at its size: they are its offsets.
+fn root_end(size: u64) -> GuestAddress
+    ensures { λ r. ⌜ r .0 ≡ size ⌝ }
+{
+    GuestAddress(size)
+}
+
 // The ranges of all addresses of the root, laid into an empty view. Is it full, since there are more than 256?
 pub fn sweep(map: &[u64], view: &mut [u64]) -> bool
     requires { ⌜ Tree (now map) × (0 < mapOf (now map) .count) ⌝ }
@@ -152,20 +167,18 @@ pub fn sweep(map: &[u64], view: &mut [u64]) -> bool
 {
     let root = region_count(map) - 1;
     let region = region_at(map, root);
-    let size = region.size;
+    let end = root_end(region.size);
     let mut table = [0u64; WORDS];
-    let mut at: u64 = 0;
-    while at < size {
-        let here = GuestAddress(at);
-        let end = GuestAddress(size);
-        begin(&mut table, here, end);
-        let offset = root_offset(here);
+    let mut at = GuestAddress(0);
+    while at.0 < end.0 {
+        begin(&mut table, at, end);
+        let offset = root_offset(at);
         render(
             map,
             &mut table,
             root,
             AddressSpan {
-                first: here,
+                first: at,
                 end,
                 offset,
             },
@@ -173,7 +186,7 @@ pub fn sweep(map: &[u64], view: &mut [u64]) -> bool
         if emit(map, view, &table) {
             return true;
         }
-        at = table[HORIZON];
+        at = horizon(&table);
     }
     false
 }

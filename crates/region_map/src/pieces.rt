@@ -2,10 +2,10 @@
 // region. The table is filled from the highest priority down, so that a piece takes only what is free.
 // Where it is full, what lies furthest gives way and the horizon comes nearer: below it the table is whole.
 ghost use mathlib.Core.Path.{_≡_};
-ghost use Prim.Native.Nat.{_+_, _*_, _≤_, _<_};
+ghost use Prim.Native.Nat.{_+_, _*_, _≤_, _<_, min};
 ghost use lib.ListN.{length};
 ghost use lib.Seq.{sets};
-ghost use Rattle.region_map.specs.Pieces.{pieceWords, pieceShows, countOf, seen, itself, isTaken};
+ghost use Rattle.region_map.specs.Pieces.{pieceWords, pieceShows, countOf, horizonOf, seen, itself, isTaken};
 ghost use Rattle.region_map.specs.Pieces.{BegunTable, PieceIs, Pieces, SpanFits, Behind, PieceSpot, Moved, Fits, Free, TakenUpTo, pieceTableLength, mostPieces};
 ghost use Rattle.map_records.specs.Limits.{limit, mostRegions};
 use map_records::map::GuestAddress;
@@ -17,7 +17,7 @@ pub const WORDS: usize = 1027;
 
 pub const COUNT: usize = 0;
 
-pub const HORIZON: usize = 1;
+const HORIZON: usize = 1;
 
 const START: usize = 2;
 
@@ -49,6 +49,21 @@ pub fn begin(table: &mut [u64], start: GuestAddress, end: GuestAddress)
     table[COUNT] = 0;
     table[HORIZON] = end.0;
     table[START] = start.0;
+}
+
+// The address up to which a table is whole.
+pub fn horizon(table: &[u64]) -> GuestAddress
+    requires { ⌜ length (now table) ≡ pieceTableLength ⌝ }
+    ensures { λ r. ⌜ r .0 ≡ horizonOf (now (table .entry)) ⌝ }
+{
+    GuestAddress(table[HORIZON])
+}
+
+// The nearer of two addresses.
+pub fn nearer(a: GuestAddress, b: GuestAddress) -> GuestAddress
+    ensures { λ r. ⌜ r .0 ≡ min (a .0) (b .0) ⌝ }
+{
+    GuestAddress(least(a.0, b.0))
 }
 
 pub fn piece_at(table: &[u64], i: usize) -> Piece
@@ -107,16 +122,16 @@ fn insert(table: &mut [u64], i: usize, piece: Piece)
 }
 
 // The place of an address among the pieces, by halving.
-fn spot(table: &[u64], a: u64) -> usize
+fn spot(table: &[u64], a: GuestAddress) -> usize
     requires { ⌜ Pieces (now table) ⌝ }
-    ensures { λ r. ⌜ PieceSpot (now (table .entry)) a r ⌝ }
+    ensures { λ r. ⌜ PieceSpot (now (table .entry)) (a .0) r ⌝ }
 {
     let mut low: usize = 0;
     let mut high = table[COUNT] as usize;
     while low < high {
         let middle = low + (high - low) / 2;
         let p = piece_at(table, middle);
-        if p.end.0 <= a {
+        if p.end.0 <= a.0 {
             low = middle + 1;
         } else {
             high = middle;
@@ -126,29 +141,29 @@ fn spot(table: &[u64], a: u64) -> usize
 }
 
 // How far from an address on nothing is taken, where i is the address's place.
-fn free_until(table: &[u64], i: usize, a: u64, end: u64) -> u64
+fn free_until(table: &[u64], i: usize, a: GuestAddress, end: GuestAddress) -> GuestAddress
     requires { ⌜ Pieces (now table) ⌝ }
-    requires { ⌜ PieceSpot (now table) a i × (a ≤ end) ⌝ }
-    ensures { λ r. ⌜ Free (now (table .entry)) i a end r ⌝ }
+    requires { ⌜ PieceSpot (now table) (a .0) i × (a .0 ≤ end .0) ⌝ }
+    ensures { λ r. ⌜ Free (now (table .entry)) i (a .0) (end .0) (r .0) ⌝ }
 {
     if (i as u64) < table[COUNT] {
         let p = piece_at(table, i);
-        if p.first.0 <= a {
+        if p.first.0 <= a.0 {
             return a;
         }
-        return least(p.first.0, end);
+        return nearer(p.first, end);
     }
     end
 }
 
 // Is an address taken by piece i, where i is the address's place?
-fn is_taken(table: &[u64], i: usize, a: u64) -> bool
+fn is_taken(table: &[u64], i: usize, a: GuestAddress) -> bool
     requires { ⌜ Pieces (now table) ⌝ }
-    ensures { λ r. ⌜ r ≡ isTaken (now (table .entry)) i a ⌝ }
+    ensures { λ r. ⌜ r ≡ isTaken (now (table .entry)) i (a .0) ⌝ }
 {
     if (i as u64) < table[COUNT] {
         let p = piece_at(table, i);
-        return p.first.0 <= a;
+        return p.first.0 <= a.0;
     }
     false
 }
@@ -156,21 +171,21 @@ fn is_taken(table: &[u64], i: usize, a: u64) -> bool
 // The address that a walk over pieces came to, and its place.
 struct Skipped {
     at: usize,
-    address: u64,
+    address: GuestAddress,
 }
 
 // Over piece i and the pieces that follow it without a gap, as far as `end`. Half of the work on the worst maps
 // known is done here, so the loop stands by itself and does nothing else.
-fn skip(table: &[u64], i: usize, end: u64) -> Skipped
+fn skip(table: &[u64], i: usize, end: GuestAddress) -> Skipped
     requires { ⌜ Pieces (now table) × (i < countOf (now table)) ⌝ }
-    ensures { λ r. ⌜ TakenUpTo (now (table .entry)) i (r .address) (r .at) ⌝ }
+    ensures { λ r. ⌜ TakenUpTo (now (table .entry)) i (r .address .0) (r .at) ⌝ }
 {
     let here = piece_at(table, i);
     let mut at = i + 1;
-    let mut address = here.end.0;
-    while (address < end) & is_taken(table, at, address) {
+    let mut address = here.end;
+    while (address.0 < end.0) & is_taken(table, at, address) {
         let next = piece_at(table, at);
-        address = next.end.0;
+        address = next.end;
         at += 1;
     }
     Skipped {
@@ -184,27 +199,29 @@ pub fn fill(table: &mut [u64], region: usize, at: AddressSpan)
     requires { ⌜ SpanFits (now table) at × (region < mostRegions) ⌝ }
     ensures { λ _. ⌜ Behind (now (table .entry)) (seen (itself region) at) (now (table .exit)) ⌝ }
 {
-    let mut a = at.first.0;
+    let end = at.end;
+    let mut a = at.first;
     let mut i = spot(table, a);
-    while a < at.end.0 {
-        if table[HORIZON] <= a {
+    while a.0 < end.0 {
+        let whole = horizon(table);
+        if whole.0 <= a.0 {
             return;
         }
-        let stop = free_until(table, i, a, at.end.0);
-        if stop == a {
-            let past = skip(table, i, at.end.0);
+        let stop = free_until(table, i, a, end);
+        if stop.0 == a.0 {
+            let past = skip(table, i, end);
             a = past.address;
             i = past.at;
         } else {
             if i == PIECES as usize {
-                table[HORIZON] = a;
+                table[HORIZON] = a.0;
                 return;
             }
-            let gone = a - at.first.0;
+            let gone = a.0 - at.first.0;
             let there = at.offset.0 + gone;
             let piece = Piece {
-                first: GuestAddress(a),
-                end: GuestAddress(stop),
+                first: a,
+                end: stop,
                 region: region,
                 offset: RegionOffset(there),
             };

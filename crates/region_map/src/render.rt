@@ -9,8 +9,8 @@ ghost use Rattle.map_records.specs.Limits.{limit};
 use crate::children::RANKS;
 use crate::children::next_child;
 use crate::pieces::AddressSpan;
-use crate::pieces::HORIZON;
 use crate::pieces::fill;
+use crate::pieces::horizon;
 use map_records::map::ALIAS;
 use map_records::map::CONTAINER;
 use map_records::map::GuestAddress;
@@ -32,7 +32,8 @@ pub fn render(map: &[u64], table: &mut [u64], n: usize, at: AddressSpan)
     if (at.end.0 <= first.0) | (size <= offset.0) {
         return;
     }
-    if table[HORIZON] <= first.0 {
+    let whole = horizon(table);
+    if whole.0 <= first.0 {
         return;
     }
     let end = GuestAddress(first.0 + least(at.end.0 - first.0, size - offset.0));

@@ -24,7 +24,7 @@ use device_words::words::region_size;
 use guest_view::find::near;
 use guest_view::place::offset_in;
 use guest_view::place::place_of;
-use guest_view::reach::is_plugged;
+use guest_view::reach::byte_plugged;
 use guest_view::rules::view_ok;
 use map_records::map::GuestAddress;
 use map_records::map::MANAGED;
@@ -96,14 +96,14 @@ fn blocks_plugged(block: u64, plugged: &[u64], offset: RegionOffset, w: u64) -> 
     requires { ⌜ (0 < w) × (w ≤ 8) × (offset .0 < limit) ⌝ }
     ensures { λ r. ⌜ r ≡ allBelow (λ i. pluggedIn block (now (plugged .entry)) (offset .0 + i)) w ⌝ }
 {
-    if !is_plugged(block, plugged, offset) {
+    if !byte_plugged(block, plugged, offset) {
         return false;
     }
     if w - 1 <= block - 1 - offset.0 % block {
         return true;
     }
     let last = RegionOffset(offset.0 + (w - 1));
-    is_plugged(block, plugged, last)
+    byte_plugged(block, plugged, last)
 }
 
 // An access over a view that was judged, with what the search for its first byte gave.

@@ -13,7 +13,7 @@ sheet001 =
     ∷ 0x00 ∷ 0x05 ∷ 0x80 ∷ 0x40 ∷ 0x80 ∷ 0x80 ∷ 0x01 ∷ 0x82 ∷ 0x01 ∷ 0x02 ∷ 0x05 ∷ 0x00 ∷ 0x80 ∷ 0xc0 ∷ 0x01 ∷ 0x81
     ∷ 0x01 ∷ 0x06 ∷ 0x00 ∷ 0x00 ∷ 0x00 ∷ 0x80 ∷ 0x80 ∷ 0x02 ∷ 0x00 ∷ []
 
--- a window, and a container; a priority field f stands for f - 128, and 0 for 0
+-- a window, and a container; a priority field f stands for f - 128, and 0 for the kind's default: -1 for a window, 0 for a container
 abbrev pub window : ℕ → ℕ → ℕ → ℕ → ℕ → Region
 window parent offset size priority port =
     record { kind = mmio; parent = parent; offset = offset; size = size; priority = priority; «memory_start» = 0; port = port; target = 0; «alias_offset» = 0 }

@@ -1,10 +1,10 @@
 // One number of a sheet, in groups of seven bits.
 ghost use mathlib.Core.Path.{_≡_};
-ghost use Prim.Native.Nat.{_<_};
 ghost use Rattle.sheet.specs.Number.{sheetNumber as numberAt};
 ghost use Rattle.sheet.specs.Number.{readBy};
 use crate::answer::Cursor;
 use crate::answer::SheetAnswer;
+use map_records::numbers::wide;
 
 pub enum NumberRead {
     Value(u64, Cursor),
@@ -14,11 +14,8 @@ pub enum NumberRead {
 // The most groups of a number.
 const GROUPS: usize = 8;
 
-fn wide(x: u8) -> u64
-    ensures { λ r. ⌜ (r ≡ x) × (r < 256) ⌝ }
-{
-    x as u64
-}
+// No group may follow this one.
+const LAST_GROUP: usize = 7;
 
 // The number at a cursor, and the cursor past it.
 pub fn read_number(sheet: &[u8], from: Cursor) -> NumberRead
@@ -39,7 +36,7 @@ pub fn read_number(sheet: &[u8], from: Cursor) -> NumberRead
             let whole = value + byte * scale;
             return NumberRead::Value(whole, Cursor { at: at + 1 });
         }
-        if i == 7 {
+        if i == LAST_GROUP {
             return NumberRead::Refused(SheetAnswer::Number(at));
         }
         value += (byte - 128) * scale;

@@ -8,10 +8,10 @@ use lib.ListN.{length}
 use borrow.Author.Tests.{eqb-true, eqb-false}
 use Rattle.map_records.specs.declared.view.FlatView.{FlatView}
 use Rattle.map_check.proofs.Bools.{never, and-fst, and-snd}
-use Rattle.device_words.specs.Device.{MemoryDevice, noBlocks, withPlugged, deviceOk}
-use Rattle.device_words.specs.Request.{requestOf, plugType, unplugType, unplugAllType, answered, withRun, isAck, changedBy}
+use Rattle.device_words.specs.Device.{MemoryDevice, sizesOf, deviceOk}
+use Rattle.device_words.specs.Request.{requestOf, answered}
 use Rattle.device_words.specs.Words.{isDevice, deviceOf, deviceLength}
-use Rattle.device_words.proofs.TableLaws.{table-length}
+use Rattle.device_words.proofs.AnswerLaws.{table-whole}
 use Rattle.device_words.proofs.DeviceWords.{device-at, device-none, none-refused, plugged-length, pins-length, words-of}
 use Rattle.guest_view.specs.View.{viewOk}
 use Rattle.virtqueue.specs.Does.{laid}
@@ -29,16 +29,8 @@ tables w l = rw (device-at w l) (plugged-length w l, pins-length w l)
 
 -- a step keeps the lengths of the device's tables
 carried-tables : (d : MemoryDevice) (s : List ℕ) → Tables d → Tables (carrying d s .device)
-unfolding carrying changedBy
-carried-tables d s t = go (isAck (answered d (requestOf s))) (eqb (requestOf s .kind) plugType) (eqb (requestOf s .kind) unplugType) (eqb (requestOf s .kind) unplugAllType)
-  where
-    go : (a x y z : Bool)
-        → Tables (cond a (withPlugged d (cond x (withRun d (requestOf s) true) (cond y (withRun d (requestOf s) false) (cond z noBlocks (d .plugged))))) d)
-    go true true y z = (table-length _, t .1)
-    go true false true z = (table-length _, t .1)
-    go true false false true = (refl, t .1)
-    go true false false false = t
-    go false x y z = t
+unfolding carrying
+carried-tables d s t = (table-whole (sizesOf d) (d .plugged) (requestOf s) (answered d (requestOf s)) (t .0), t .1)
 
 pub step-tables : (g : Guest) (d : MemoryDevice) (q : SplitQueue) (memory : List ℕ) → Tables d → Tables (steppedBy g d q memory .device)
 unfolding steppedBy

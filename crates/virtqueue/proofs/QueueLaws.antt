@@ -1,7 +1,8 @@
 -- Laws of the queue record. Assumes nothing.
 use mathlib.Core.Path.{_≡_, refl}
 use mathlib.Core.Bool.{Bool, true, false, _&&_, _||_}
-use Prim.Native.Nat.{ℕ, _+_, _*_, _%_, _^_, _≤_}
+use Prim.Native.Nat.{ℕ, _+_, _*_, _%_, _^_, _≤_, _<_}
+use native.Mathlib.Nat.{mod-lt}
 use native.Mathlib.Omega.{arith}
 use lib.Dec.{eqb, leb}
 use borrow.Author.Tests.{leb-true, eqb-true}
@@ -32,6 +33,10 @@ size-bounds n h =
         let low = leb-true 1 k (and-fst (leb 1 k) (leb k 256) b) in
         let high = leb-true k 256 (and-snd (leb 1 k) (leb k 256) b) in
         (omega arith, omega arith)
+
+-- the slot of a count in a ring whose size is a number of 16 bits
+pub slot-low : (count : ℕ) {size : ℕ} → 0 < size → size < 65536 → count % size < 65536
+slot-low count some wide = omega (arith, mod-lt count some)
 
 -- what 27 tells of a queue
 pub record QueueFacts (q : SplitQueue) : Type 0 where

@@ -8,7 +8,7 @@ use lib.ListN.{length, set, length-set}
 use Rattle.map_records.specs.declared.view.FlatView.{FlatView}
 use Rattle.map_check.proofs.Bools.{and-fst, and-snd, and-true}
 use Rattle.device_words.specs.Device.{deviceOk, withTables}
-use Rattle.device_words.specs.Request.{requestOf, answered, isAck, tableAfterAck, changedBy}
+use Rattle.device_words.specs.Request.{requestOf}
 use Rattle.device_words.specs.Device.{MemoryDevice}
 use Rattle.device_words.specs.declared.request.Request.{Request}
 use Rattle.device_words.specs.declared.request.Response.{Response}
@@ -27,15 +27,6 @@ written-length memory [] bytes = refl
 written-length memory (p ∷ ps) [] = refl
 written-length memory (p ∷ ps) (b ∷ bs) = written-length (set memory p b) ps bs ∙ length-set memory p b
 
--- a request keeps the region's size
-region-kept : (d : MemoryDevice) (r : Request) (x : Response) → changedBy d r x .«region_size» ≡ d .«region_size»
-unfolding changedBy
-region-kept d r x = go (isAck x)
-  where
-    go : (b : Bool) → cond b (withTables d (tableAfterAck d r) (d .pinned)) d .«region_size» ≡ d .«region_size»
-    go true = refl
-    go false = refl
-
 module _ (g : Guest) (d : MemoryDevice) (q : SplitQueue) (memory : List ℕ) where
   finish-length : (x : Offer) → length (finished g d q memory x .memory) ≡ length memory
   finish-length (stop k) = refl
@@ -48,7 +39,7 @@ module _ (g : Guest) (d : MemoryDevice) (q : SplitQueue) (memory : List ℕ) whe
   unfolding carrying
   finish-region (stop k) = refl
   finish-region nothing = refl
-  finish-region (ready h n c) = region-kept d (requestOf (requestBytes (g .place) memory c)) (answered d (requestOf (requestBytes (g .place) memory c)))
+  finish-region (ready h n c) = refl
 
 -- a step that is served keeps the device's and the queue's rules
 module _ (g : Guest) (d : MemoryDevice) (q : SplitQueue) (memory : List ℕ) (b : Bool) (h : deviceOk d ≡ true) (k : queueOk q ≡ true) where

@@ -12,6 +12,7 @@ ghost use Rattle.virtqueue.specs.Step.{usedLength, usedPlaces, usedBytes
 ghost use Rattle.virtqueue.specs.Does.{DoesIn};
 ghost use Rattle.virtqueue.specs.Contracts.{UsedIn, Stepping, steppedIn};
 ghost use Rattle.device_words.specs.Bytes.{responseLength};
+ghost use Rattle.device_words.specs.Device.{sizesOf};
 use crate::queue::SplitQueue;
 use crate::ring::used_entry;
 use crate::ring::used_idx;
@@ -86,7 +87,7 @@ fn serve(
     used: &[usize],
     bytes: &[u8],
 )
-    requires { ⌜ (length (now device) ≡ deviceLength) × Sized (deviceOf (now device)) ⌝ }
+    requires { ⌜ (length (now device) ≡ deviceLength) × Sized (sizesOf (deviceOf (now device))) ⌝ }
     requires { ⌜ (length (now places) ≡ responseLength) × Within (now places) (length (now mem)) ⌝ }
     requires { ⌜ (length (now used) ≡ length (now bytes)) × Within (now used) (length (now mem)) ⌝ }
     ensures { λ _. ⌜ (now (device .exit) ≡ deviceWords (carrying (deviceOf (now (device .entry))) request .device))

@@ -7,10 +7,8 @@ use lib.ListN.{length}
 use borrow.Author.Tests.{eqb-true}
 use Rattle.map_check.proofs.Bools.{and-snd}
 use Rattle.map_check.specs.Reply.{Reply}
-use Rattle.wicktumble.specs.Result.{Report, Returns, reportOf, replyReport, lengthRefused, isResult}
-use Rattle.wicktumble.specs.Contracts.{saidReport, Says, SaysReply}
+use Rattle.wicktumble.specs.Result.{Report, Returns, replyReport, lengthRefused, resultLength, isResult}
 use Rattle.wicktumble.specs.Maps.{RecordReport, ReturnsRecord, madeRecord, unmadeRecord}
-use Rattle.wicktumble.specs.declared.result.Said.{Said}
 
 -- ---- the test of the lengths
 pub taken : {A : Type 0} {t : Bool} (x y : A) → t ≡ true → x ≡ cond t x y
@@ -19,25 +17,22 @@ taken x y e = rw e
 pub refused : {A : Type 0} {t : Bool} (x y : A) → t ≡ false → y ≡ cond t x y
 refused x y e = rw e
 
-pub result-fits : (t : Bool) (x : List ℕ) → (t && isResult x) ≡ true → length x ≡ 3
-result-fits t x e = eqb-true (length x) 3 (and-snd t (isResult x) e)
+pub result-fits : (t : Bool) (x : List ℕ) → (t && isResult x) ≡ true → length x ≡ resultLength
+result-fits t x e = eqb-true (length x) resultLength (and-snd t (isResult x) e)
 
 -- ---- a number and a result
-pub says : {s : Said} {n a b c : ℕ} → Says s n a b c → saidReport s ≡ reportOf n a b c
-says r = rw (r .number, r .first, r .second, r .third)
-
 pub told-as : {c c' : Report} {n : ℕ} {x : List ℕ} → Returns c n x → c ≡ c' → Returns c' n x
 told-as (n, x) e = (n ∙ ap (λ (y : Report). y .number) e, x ∙ ap (λ (y : Report). y .result) e)
 
 pub untold-as : {c : Report} {x : List ℕ} → lengthRefused x ≡ c → Returns c 27 x
 untold-as e = told-as (refl, refl) e
 
-pub reply-told : {s : Said} {r r' : Reply} {c : Report} {n : ℕ} {x : List ℕ} → Returns (saidReport s) n x → SaysReply s r → r ≡ r' → replyReport r' ≡ c → Returns c n x
-reply-told t s e k = told-as t (says s ∙ ap replyReport e ∙ k)
+pub reply-told : {s c : Report} {r r' : Reply} {n : ℕ} {x : List ℕ} → Returns s n x → s ≡ replyReport r → r ≡ r' → replyReport r' ≡ c → Returns c n x
+reply-told t s e k = told-as t (s ∙ ap replyReport e ∙ k)
 
 -- ---- a record beside them
-pub reply-made : {s : Said} {r r' : Reply} {c : RecordReport} {n : ℕ} {w w' x : List ℕ}
-    → w ≡ w' → Returns (saidReport s) n x → SaysReply s r → r ≡ r' → madeRecord w' r' ≡ c → ReturnsRecord c n w x
+pub reply-made : {s : Report} {c : RecordReport} {r r' : Reply} {n : ℕ} {w w' x : List ℕ}
+    → w ≡ w' → Returns s n x → s ≡ replyReport r → r ≡ r' → madeRecord w' r' ≡ c → ReturnsRecord c n w x
 reply-made ew t s e k = (ew ∙ ap (λ (y : RecordReport). y .words) k, reply-told t s e (ap (λ (y : RecordReport). y .told) k))
 
 pub unmade-as : {c : RecordReport} {w x : List ℕ} → unmadeRecord w x ≡ c → ReturnsRecord c 27 w x

@@ -13,7 +13,7 @@ use Rattle.device_words.specs.Words.{deviceOf, deviceWords}
 use Rattle.memory_device.specs.Record.{HostOutcome, hostReply}
 use Rattle.memory_device.specs.SetUp.{setUpReply}
 use Rattle.memory_device.specs.Request.{carriedInto}
-use Rattle.memory_device.specs.Lent.{wordsLeft, LeavesDevice, Carries}
+use Rattle.memory_device.specs.Leaves.{wordsLeft, LeavesDevice, Carries}
 use Rattle.memory_device.specs.declared.device.HostAnswer.{HostAnswer}
 use Rattle.memory_device.specs.declared.setup.SetUpAnswer.{SetUpAnswer}
 use Rattle.memory_device.specs.declared.setup.SetUpAnswer.the-variants.{Checked, Values}

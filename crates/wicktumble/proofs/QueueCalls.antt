@@ -24,7 +24,7 @@ use Rattle.virtqueue.specs.declared.queue.QueueGiven.{QueueGiven}
 use Rattle.virtqueue.specs.declared.step.Moved.{Moved}
 use Rattle.virtqueue.specs.declared.run.Ran.{Ran}
 use Rattle.virtqueue.proofs.QueueLaws.{size-bounds}
-use Rattle.wicktumble.specs.Result.{Report, Returns, isResult}
+use Rattle.wicktumble.specs.Result.{Report, Returns, resultLength, isResult}
 use Rattle.wicktumble.specs.Devices.{WordsReport, ReturnsWords}
 use Rattle.wicktumble.specs.Queues.{queueFits, QueueWidths, queueOf, queueWords, gives, StepReport, ReturnsStep, recordsFit}
 use Rattle.wicktumble.specs.Queues.{stepResult, stepLeft, stepCall, runResult, runLeft, runCall}
@@ -54,7 +54,7 @@ queue-widths w q t =
 pub record Fits (d q x : List ℕ) : Type 0 where
   pub device : isDevice d ≡ true
   pub queue : QueueWidths q
-  pub result : length x ≡ 3
+  pub result : length x ≡ resultLength
 
 pub fits : (v d q x : List ℕ) {b : Bool} → b ≡ recordsFit v d q x → b ≡ true → Fits d q x
 fits v d q x e t =

@@ -1,7 +1,7 @@
 -- The calls over devices. Words of another number than a device's stand for a record that 27 refuses. Assumes nothing: these are definitions.
 use mathlib.Core.Path.{_≡_}
 use mathlib.Core.Bool.{cond, _&&_}
-use mathlib.Core.List.{List}
+use mathlib.Core.List.{List, [], _∷_}
 use Prim.Native.Nat.{ℕ}
 use lib.Dec.{eqb}
 use lib.ListN.{length}
@@ -15,7 +15,7 @@ use Rattle.memory_device.specs.SetUp.{setUp}
 use Rattle.memory_device.specs.Host.{ConfigurationRead, resized, pinBlock, unpinBlock, systemReset, configuredInto, ByteIn, byteBlock}
 use Rattle.memory_device.specs.Host as host
 use Rattle.memory_device.specs.Request.{carriedInto}
-use Rattle.memory_device.specs.Lent.{wordsLeft}
+use Rattle.memory_device.specs.Leaves.{wordsLeft}
 use Rattle.map_records.specs.Refusal as refusal
 use Rattle.device_words.specs.Bytes.{requestLength}
 use Rattle.memory_device.specs.declared.setup.DeviceValues.{DeviceValues}
@@ -86,8 +86,8 @@ requestCall w bytes response =
 
 -- 1 and the block of a byte, or zeros for a byte outside the region
 abbrev pub inBlock : ByteIn → Report
-inBlock (host.block b) = reportOf 0 1 b 0
-inBlock host.outside = reportOf 0 0 0 0
+inBlock (host.block b) = reportOf 0 (1 ∷ b ∷ [])
+inBlock host.outside = reportOf 0 []
 inBlock (host.refused r) = replyReport r
 
 unfoldable pub blockCall : List ℕ → ℕ → List ℕ → Report

@@ -1,7 +1,7 @@
 -- The calls over maps: sheet, check, walk, flat view. Each gives its number, and what it leaves in the lent words. Assumes nothing: these are definitions.
 use mathlib.Core.Path.{_≡_}
 use mathlib.Core.Bool.{cond, _&&_}
-use mathlib.Core.List.{List}
+use mathlib.Core.List.{List, [], _∷_}
 use Prim.Native.Nat.{ℕ}
 use Rattle.map_records.specs.Words.{mapOf}
 use Rattle.map_check.specs.Reply.{Reply}
@@ -39,8 +39,8 @@ checkCall map memory result = cond (isMap map && isResult result) (replyReport (
 -- a refusal, or 1, the region and the offset, or zeros for nothing
 abbrev pub walkResult : WalkAnswer → Report
 walkResult (refused r) = replyReport r
-walkResult (leads Nothing) = reportOf 0 0 0 0
-walkResult (leads (At n o)) = reportOf 0 1 n (o .0)
+walkResult (leads Nothing) = reportOf 0 []
+walkResult (leads (At n o)) = reportOf 0 (1 ∷ n ∷ o .0 ∷ [])
 
 unfoldable pub walkCall : List ℕ → ℕ → ℕ → List ℕ → Report
 walkCall map memory a result = cond (isMap map && isResult result) (walkResult (resolved (mapOf map) memory a)) (lengthRefused result)

@@ -105,7 +105,7 @@ notifiedOne step.idle = 0
 notifiedOne (step.served notify) = flag notify
 
 abbrev pub stepResult : Answer → Report
-stepResult a = reportOf (numberOf (stepReply a)) (servedOne a) (notifiedOne a) 0
+stepResult a = reportOf (numberOf (stepReply a)) (servedOne a ∷ notifiedOne a ∷ [])
 
 abbrev pub stepLeft : Effect MemoryDevice → StepReport
 stepLeft e = record { device = deviceWords (e .device); queue = queueWords (e .queue); memory = e .memory; told = stepResult (e .answer) }
@@ -122,7 +122,7 @@ idleEnd run.wentIdle = 1
 idleEnd (run.refusedBy n) = 0
 
 abbrev pub runResult : ℕ → Bool → End → Report
-runResult served notified e = reportOf (numberOf (endReply e)) served (flag notified) (idleEnd e)
+runResult served notified e = reportOf (numberOf (endReply e)) (served ∷ flag notified ∷ idleEnd e ∷ [])
 
 abbrev pub runLeft : RunEffect → StepReport
 runLeft e =

@@ -1,6 +1,6 @@
 -- The calls that route accesses, and the look-up in a view. Assumes nothing: these are definitions.
 use mathlib.Core.Bool.{Bool, cond, _&&_, _||_}
-use mathlib.Core.List.{List}
+use mathlib.Core.List.{List, [], _∷_}
 use Prim.Native.Nat.{ℕ}
 use lib.Dec.{eqb}
 use lib.ListN.{length}
@@ -14,9 +14,9 @@ use Rattle.wicktumble.specs.Maps.{walkResult}
 
 -- the number of a refusal, or 1 and the memory place, or 2, the port and the offset
 abbrev pub routeResult : Routed → Report
-routeResult (refused n) = reportOf n 0 0 0
-routeResult (toMemory p) = reportOf 0 1 p 0
-routeResult (toPort p o) = reportOf 0 2 p o
+routeResult (refused n) = reportOf n []
+routeResult (toMemory p) = reportOf 0 (1 ∷ p ∷ [])
+routeResult (toPort p o) = reportOf 0 (2 ∷ p ∷ o ∷ [])
 
 -- a device of no words is none: 27 then judges no region, and no block is plugged
 abbrev pub isNone : List ℕ → Bool

@@ -2,11 +2,11 @@
 ghost use mathlib.Core.Path.{_≡_};
 ghost use lib.ListN.{length};
 ghost use Rattle.memory_device.specs.Host.{byteOf};
-ghost use Rattle.memory_device.specs.Lent.{wordsLeft};
+ghost use Rattle.memory_device.specs.Leaves.{wordsLeft};
 ghost use Rattle.memory_device.specs.Record.{recordOf};
 ghost use Rattle.memory_device.specs.SetUp.{setUpReply};
-ghost use Rattle.wicktumble.specs.Result.{Returns};
-ghost use Rattle.wicktumble.specs.Contracts.{saidReport, SaysReply};
+ghost use Rattle.wicktumble.specs.Result.{Returns, replyReport};
+ghost use Rattle.wicktumble.specs.Contracts.{saidReport};
 ghost use Rattle.wicktumble.specs.Maps.{ReturnsRecord};
 ghost use Rattle.wicktumble.specs.Devices.{valuesOf, setUpCall, ReturnsWords, resizeCall, pinCall, unpinCall, resetCall};
 ghost use Rattle.wicktumble.specs.Devices.{configurationCall, ReturnsRequest, requestCall, inBlock, blockCall};
@@ -16,6 +16,7 @@ use crate::result::RESULT_WORDS;
 use crate::result::Said;
 use crate::result::say;
 use crate::result::say_map;
+use crate::result::say_two;
 use crate::result::tell;
 use device_words::bytes::REQUEST_BYTES;
 use device_words::bytes::copy_bytes;
@@ -25,22 +26,22 @@ use map_records::map::RegionOffset;
 use map_records::refusal;
 use map_records::words::MAP_WORDS;
 use map_records::words::copy_words;
+use memory_device::calls;
+use memory_device::calls::ByteBlock;
 use memory_device::device;
 use memory_device::device::MemoryDevice;
 use memory_device::device::words_of;
-use memory_device::lent;
-use memory_device::lent::ByteBlock;
 use memory_device::setup;
 use memory_device::setup::DeviceValues;
 use memory_device::setup::SetUpAnswer;
 use memory_device::setup::set_up;
 
 fn say_set_up(answer: SetUpAnswer) -> Said
-    ensures { λ r. ⌜ SaysReply r (setUpReply answer) ⌝ }
+    ensures { λ r. ⌜ saidReport r ≡ replyReport (setUpReply answer) ⌝ }
 {
     let number = setup::number_of(answer);
     match answer {
-        SetUpAnswer::Values => say(number, 0, 0, 0),
+        SetUpAnswer::Values => say(number),
         SetUpAnswer::Checked(map) => say_map(map),
     }
 }
@@ -56,6 +57,8 @@ fn put_fresh(device: &mut [u64], answer: SetUpAnswer, fresh: MemoryDevice)
     }
 }
 
+// The call sets a fresh device up from a map. It refuses with 3, 4, 6 to 11 (the result has the two
+// regions), 13 and 27.
 #[no_mangle]
 pub extern "C" fn wt_set_up(
     map: &[u64],
@@ -88,39 +91,44 @@ pub extern "C" fn wt_set_up(
     refusal::RECORD
 }
 
+// The call sets the size that the host requests of the guest. It refuses with 14 and 27.
 #[no_mangle]
 pub extern "C" fn wt_set_requested_size(device: &mut [u64], size: u64) -> u64
     ensures { λ r. ⌜ ReturnsWords (resizeCall (now (device .entry)) size) r (now (device .exit)) ⌝ }
 {
-    device::number_of(lent::set_requested_size(device, size))
+    device::number_of(calls::set_requested_size(device, size))
 }
 
+// The call pins a plugged block. It refuses with 15 and 27.
 #[no_mangle]
 pub extern "C" fn wt_pin(device: &mut [u64], block: u64) -> u64
     ensures { λ r. ⌜ ReturnsWords (pinCall (now (device .entry)) block) r (now (device .exit)) ⌝ }
 {
-    device::number_of(lent::pin(device, block))
+    device::number_of(calls::pin(device, block))
 }
 
+// The call takes the pin from a block. It refuses with 15 and 27.
 #[no_mangle]
 pub extern "C" fn wt_unpin(device: &mut [u64], block: u64) -> u64
     ensures { λ r. ⌜ ReturnsWords (unpinCall (now (device .entry)) block) r (now (device .exit)) ⌝ }
 {
-    device::number_of(lent::unpin(device, block))
+    device::number_of(calls::unpin(device, block))
 }
 
+// The call gives the device its fresh state back. It refuses with 27.
 #[no_mangle]
 pub extern "C" fn wt_system_reset(device: &mut [u64]) -> u64
     ensures { λ r. ⌜ ReturnsWords (resetCall (now (device .entry))) r (now (device .exit)) ⌝ }
 {
-    device::number_of(lent::system_reset(device))
+    device::number_of(calls::system_reset(device))
 }
 
+// The call writes the 56 bytes of configuration that the guest reads. It refuses with 27.
 #[no_mangle]
 pub extern "C" fn wt_configuration(device: &[u64], bytes: &mut [u8]) -> u64
     ensures { λ r. ⌜ ReturnsWords (configurationCall (now (device .entry)) (now (bytes .entry))) r (now (bytes .exit)) ⌝ }
 {
-    device::number_of(lent::configuration(device, bytes))
+    device::number_of(calls::configuration(device, bytes))
 }
 
 // The 24 bytes of a request.
@@ -133,6 +141,8 @@ fn request_bytes(bytes: &[u8]) -> [u8; REQUEST_BYTES]
     out
 }
 
+// The call carries out one request of the guest without a queue: 24 bytes, and ten for the response.
+// It refuses with 27.
 #[no_mangle]
 pub extern "C" fn wt_request(device: &mut [u64], request: &[u8], response: &mut [u8]) -> u64
     ensures { λ r. ⌜ ReturnsRequest (requestCall (now (device .entry)) (now (request .entry)) (now (response .entry)))
@@ -140,7 +150,7 @@ pub extern "C" fn wt_request(device: &mut [u64], request: &[u8], response: &mut 
 {
     if request.len() == REQUEST_BYTES {
         let bytes = request_bytes(request);
-        return device::number_of(lent::carry_out(device, bytes, response));
+        return device::number_of(calls::carry_out(device, bytes, response));
     }
     refusal::RECORD
 }
@@ -149,18 +159,20 @@ fn say_block(found: ByteBlock) -> Said
     ensures { λ r. ⌜ saidReport r ≡ inBlock (byteOf found) ⌝ }
 {
     match found {
-        ByteBlock::At(block) => say(0, 1, block.0 as u64, 0),
-        ByteBlock::Outside => say(0, 0, 0, 0),
-        ByteBlock::Record => say(refusal::RECORD, 0, 0, 0),
+        ByteBlock::At(block) => say_two(0, 1, block.0 as u64),
+        ByteBlock::Outside => say(0),
+        ByteBlock::Record => say(refusal::RECORD),
     }
 }
 
+// The call finds the block in which a byte lies, by its offset in the device's region. The result has 1
+// and the block, or zeros for a byte outside the region. The call refuses with 27.
 #[no_mangle]
 pub extern "C" fn wt_block_of_byte(device: &[u64], offset: u64, result: &mut [u64]) -> u64
     ensures { λ r. ⌜ Returns (blockCall (now (device .entry)) offset (now (result .entry))) r (now (result .exit)) ⌝ }
 {
     if (device.len() == DEVICE_WORDS) & (result.len() == RESULT_WORDS) {
-        let found = lent::block_of_byte(device, RegionOffset(offset));
+        let found = calls::block_of_byte(device, RegionOffset(offset));
         return tell(result, say_block(found));
     }
     refusal::RECORD

@@ -16,6 +16,8 @@ use crate::queue_words::queue_of;
 use crate::result::RESULT_WORDS;
 use crate::result::Said;
 use crate::result::say;
+use crate::result::say_three;
+use crate::result::say_two;
 use crate::result::tell;
 use device_words::words::DEVICE_WORDS;
 use map_records::map::GuestAddress;
@@ -43,6 +45,7 @@ fn put_given(queue: &mut [u64], given: QueueGiven) -> u64
     number
 }
 
+// The call makes a queue of a size and three areas, with its counts at 0. It refuses with 16 and 27.
 #[no_mangle]
 pub extern "C" fn wt_make_queue(
     size: u64,
@@ -69,6 +72,7 @@ pub extern "C" fn wt_make_queue(
     refusal::RECORD
 }
 
+// The call resets a queue: its counts are 0 then, and no stop is left. It refuses with 27.
 #[no_mangle]
 pub extern "C" fn wt_reset_queue(queue: &mut [u64]) -> u64
     ensures { λ r. ⌜ ReturnsWords (resetQueueCall (now (queue .entry))) r (now (queue .exit)) ⌝ }
@@ -98,12 +102,15 @@ fn say_step(outcome: StepOutcome) -> Said
     ensures { λ r. ⌜ saidReport r ≡ stepResult (answerOf outcome) ⌝ }
 {
     match outcome {
-        StepOutcome::Refused(n) => say(n as u64, 0, 0, 0),
-        StepOutcome::Idle => say(0, 0, 0, 0),
-        StepOutcome::Served(notify) => say(0, 1, flag(notify), 0),
+        StepOutcome::Refused(n) => say(n as u64),
+        StepOutcome::Idle => say(0),
+        StepOutcome::Served(notify) => say_two(0, 1, flag(notify)),
     }
 }
 
+// A step takes a chain from the queue, carries its request out and returns it. The result has 1 where a
+// chain was served (0: none was offered), and 1 where the guest is to be notified. The call refuses with
+// 17 to 22, by which the queue is stopped, and 27.
 #[no_mangle]
 pub extern "C" fn wt_step(
     view: &[u64],
@@ -130,12 +137,15 @@ fn say_run(served: u64, notified: bool, end: RunEnd) -> Said
 {
     let notify = flag(notified);
     match end {
-        RunEnd::AllDone => say(0, served, notify, 0),
-        RunEnd::Idle => say(0, served, notify, 1),
-        RunEnd::Refused(n) => say(n as u64, served, notify, 0),
+        RunEnd::AllDone => say_three(0, served, notify, 0),
+        RunEnd::Idle => say_three(0, served, notify, 1),
+        RunEnd::Refused(n) => say_three(n as u64, served, notify, 0),
     }
 }
 
+// A run takes up to k steps, at most 256, to the first that is idle or refused. The result has the
+// chains served, 1 where the guest is to be notified, and 1 where the end was idle. The call refuses
+// with 17 to 22 (the served steps stay and are counted, and the queue is stopped) and 27.
 #[no_mangle]
 pub extern "C" fn wt_run(
     view: &[u64],

@@ -9,6 +9,8 @@ ghost use Rattle.wicktumble.specs.Routes.{routeResult, routeBy, routeCal
 use crate::result::RESULT_WORDS;
 use crate::result::Said;
 use crate::result::say;
+use crate::result::say_three;
+use crate::result::say_two;
 use crate::result::tell;
 use device_words::words::DEVICE_WORDS;
 use map_records::map::GuestAddress;
@@ -23,9 +25,9 @@ fn say_route(answer: RouteAnswer) -> Said
     ensures { λ r. ⌜ saidReport r ≡ routeResult (routedBy answer) ⌝ }
 {
     match answer {
-        RouteAnswer::Refused(n) => say(n, 0, 0, 0),
-        RouteAnswer::Memory(place) => say(0, 1, place, 0),
-        RouteAnswer::Port(port, offset) => say(0, 2, port, offset.0),
+        RouteAnswer::Refused(n) => say(n),
+        RouteAnswer::Memory(place) => say_two(0, 1, place),
+        RouteAnswer::Port(port, offset) => say_three(0, 2, port, offset.0),
     }
 }
 
@@ -46,6 +48,8 @@ fn route_by(
     route::route(view, memory_length, device, a, width)
 }
 
+// The call routes one access of a width in bytes; a device of no words is none. The result has 1 and the
+// place in memory, or 2, the port and the offset in its region. The call refuses with 23 to 26 and 27.
 #[no_mangle]
 pub extern "C" fn wt_route(
     view: &[u64],
@@ -66,13 +70,15 @@ pub extern "C" fn wt_route(
     refusal::RECORD
 }
 
+// The call routes many accesses, for which view and device are judged once: two words each, and for each
+// answer four, the number and the result of `wt_route`. It refuses with 27, and then writes no answer.
 #[no_mangle]
 pub extern "C" fn wt_route_all(
     view: &[u64],
     memory_length: u64,
     device: &[u64],
-    accesses: &[u64],
-    answers: &mut [u64],
+    accesses: &[u64], // an address and a width each
+    answers: &mut [u64], // a number and a result each
 ) -> u64
     ensures { λ r. ⌜ RoutesAll
         (routeAllCall (now (view .entry)) «memory_length» (now (device .entry)) (now (accesses .entry)) (now (answers .entry)))
@@ -88,12 +94,14 @@ fn say_look_up(found: LookUp) -> Said
     ensures { λ r. ⌜ saidReport r ≡ walkResult (lookedBy found) ⌝ }
 {
     match found {
-        LookUp::At(region, offset) => say(0, 1, region as u64, offset.0),
-        LookUp::Nothing => say(0, 0, 0, 0),
-        LookUp::Record => say(refusal::RECORD, 0, 0, 0),
+        LookUp::At(region, offset) => say_three(0, 1, region as u64, offset.0),
+        LookUp::Nothing => say(0),
+        LookUp::Record => say(refusal::RECORD),
     }
 }
 
+// The call says what a view gives an address, with the result of `wt_walk`. It refuses with 27, which
+// judges no device's region here.
 #[no_mangle]
 pub extern "C" fn wt_look_up(
     view: &[u64],

@@ -6,47 +6,11 @@ use borrow.Author.Needs.{needs}
 use Rattle.draw.proofs.main.Statement.{statement}
 use Rattle.draw.proofs.main.Tie as tie
 
-slice-aggregate-read-full : tie.Need-slice-aggregate-read-full
-slice-aggregate-read-full c = search needs
-
-read-full-requires : tie.Need-read-full-requires
-read-full-requires c κs = search needs
-
-array-share-prefix-sheet : tie.Need-array-share-prefix-sheet
-array-share-prefix-sheet c = search needs
-
-slice-aggregate-draw-sheet : tie.Need-slice-aggregate-draw-sheet
-slice-aggregate-draw-sheet c = search needs
-
-slice-aggregate-draw-sheet-2 : tie.Need-slice-aggregate-draw-sheet-2
-slice-aggregate-draw-sheet-2 c = search needs
-
-draw-sheet-requires : tie.Need-draw-sheet-requires
-draw-sheet-requires c κs = search needs
-
-array-share-prefix-text : tie.Need-array-share-prefix-text
-array-share-prefix-text c = search needs
-
 slice-aggregate-write-all : tie.Need-slice-aggregate-write-all
 slice-aggregate-write-all c = sym (length-take-le _ _ (omega (arith, c .before .before .draw-sheet .ensures .1)))
-
-write-all-requires : tie.Need-write-all-requires
-write-all-requires c κs = search needs
-
-returns : tie.Need-returns
-returns c = search needs
 
 pub main-spec : {M : Type 1} → statement M
 main-spec =
     tie.close
-    (tie.spec
-    slice-aggregate-read-full
-    read-full-requires
-    array-share-prefix-sheet
-    slice-aggregate-draw-sheet
-    slice-aggregate-draw-sheet-2
-    draw-sheet-requires
-    array-share-prefix-text
-    slice-aggregate-write-all
-    write-all-requires
-    returns)
+    (tie.spec (λ c. search needs) (λ c κs. search needs) (λ c. search needs) (λ c. search needs) (λ c. search needs)
+    (λ c κs. search needs) (λ c. search needs) slice-aggregate-write-all (λ c κs. search needs) (λ c. search needs))

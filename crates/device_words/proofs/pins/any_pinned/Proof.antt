@@ -8,7 +8,7 @@ use Rattle.device_words.proofs.pins.any_pinned.Statement.{statement}
 use Rattle.device_words.proofs.pins.any_pinned.Tie as tie
 
 returns : tie.Need-returns
-returns c = let a = c .before .before .before .args in ap not (c .none-set .ensures) ∙ held-any (deviceAt (a .device .now) .pinned) (a .from) (a .n)
+returns c = let a = c .before .before .before .args in ap not (c .none-set .ensures) ∙ held-any (deviceAt (a .device .now) .pinned) (a .from .0) (a .n)
 
 pub any-pinned-spec : {M : Type 1} → statement M
 any-pinned-spec = tie.close (tie.spec (λ c. search needs) (λ c. search needs) (λ c. search needs) (λ c κs. search needs) returns)

@@ -11,12 +11,12 @@ use Rattle.device_words.proofs.pins.is_pinned.Statement.{statement}
 use Rattle.device_words.proofs.pins.is_pinned.Tie as tie
 
 returns : tie.Need-returns
-returns c = let a = c .before .before .before .args in (c .any-pinned .ensures ∙ any-one (isPinned (deviceAt (a .device .now))) (a .b), λ e. c .before .if1 .taken)
+returns c = let a = c .before .before .before .before .args in (c .any-pinned .ensures ∙ any-one (isPinned (deviceAt (a .device .now))) (a .b .0), λ e. c .before .if1 .taken)
 
 returns-2 : tie.Need-returns-2
-returns-2 c = let s = c .before .before in
+returns-2 c = let s = c .before .before .before in
     let w = s .args .device .now in
-    (sym (past-bit (deviceAt w .pinned) (s .args .b) (pins-length w (s .pre)) (c .if1 .left)), λ e. absurd (never (sym e)))
+    (sym (past-bit (deviceAt w .pinned) (s .args .b .0) (pins-length w (s .pre)) (c .if1 .left)), λ e. absurd (never (sym e)))
 
 pub is-pinned-spec : {M : Type 1} → statement M
-is-pinned-spec = tie.close (tie.spec (λ c κs. search needs) returns returns-2)
+is-pinned-spec = tie.close (tie.spec (λ c. search needs) (λ c κs. search needs) returns returns-2)

@@ -22,11 +22,7 @@ loop-holds c = (search needs, refl, search needs)
 loop-again : tie.Need-loop-again Inv-loop μ-loop
 loop-again c = let t = c .before .before .before .before .before .args .words .now in
     let i = c .before .before .before .loop .i in
-    let old = c .before .before .before .loop .inv .1 in
-    ⊎-elim
-    (λ w. (omega arith, w .2 ∙ ap₂ _+_ old (w .1 .ensures .0) ∙ sym (set-next t i), omega (arith, w .2, w .1 .ensures .1)))
-    (λ w. (omega arith, w .1 ∙ old ∙ omega (arith, set-next t i, ap (λ (x : ℕ). bitsIn x 64) (w .0 .left) ∙ no-bits 64), omega (arith, w .1)))
-    (c .if1 .came)
+    (omega arith, ap₂ _+_ (c .before .before .before .loop .inv .1) (c .ones .ensures .0) ∙ sym (set-next t i), omega (arith, c .ones .ensures .1))
 
 returns : tie.Need-returns Inv-loop μ-loop
 returns c = let e : c .before .loop .i ≡ 16 = omega arith in

@@ -27,11 +27,29 @@ returns-5 : tie.Need-returns-5
 unfolding kindText
 returns-5 c =
     let s = c .before .before in
-    rw (ne-eqb _ _ (s .before .before .before .if1 .left), ne-eqb _ _ (s .before .before .if2 .left), ne-eqb _ _ (s .before .if3 .left), ne-eqb _ _ (s .if4 .left)) (c .letter5 .ensures)
+    rw (
+      ne-eqb _ _ (s .before .before .before .before .if1 .left),
+      ne-eqb _ _ (s .before .before .before .if2 .left),
+      ne-eqb _ _ (s .before .before .if3 .left),
+      ne-eqb _ _ (s .before .if4 .left),
+      eq-eqb _ _ (s .if5 .taken),
+    )
+    (c .letter5 .ensures)
+
+returns-6 : tie.Need-returns-6
+unfolding kindText
+returns-6 c =
+    rw (
+      ne-eqb _ _ (c .before .before .before .before .if1 .left),
+      ne-eqb _ _ (c .before .before .before .if2 .left),
+      ne-eqb _ _ (c .before .before .if3 .left),
+      ne-eqb _ _ (c .before .if4 .left),
+      ne-eqb _ _ (c .if5 .left),
+    )
 
 pub kind-letter-spec : {M : Type 1} → statement M
 kind-letter-spec =
     tie.close
     (tie.spec (λ c. search needs) (λ c κs. search needs) returns (λ c. search needs) (λ c κs. search needs) returns-2 (λ c. search needs)
     (λ c κs. search needs) returns-3 (λ c. search needs) (λ c κs. search needs) returns-4 (λ c. search needs) (λ c κs. search needs)
-    returns-5)
+    returns-5 returns-6)

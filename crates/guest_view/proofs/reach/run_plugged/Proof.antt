@@ -36,13 +36,13 @@ add-count : tie.Need-add-count
 add-count c = omega (arith, c .before .before .block-of2 .ensures, c .before .before .before .before .if1 .taken, ordered c)
 
 all-set-requires : tie.Need-all-set-requires
-all-set-requires c κs = (c .before .before .before .before .before .before .before .before .before .pre .0 .1, omega (arith, c .before .before .before .block-of2 .ensures, c .before .before .before .before .before .if1 .taken, ordered (c .before)))
+all-set-requires c κs = (c .before .before .before .before .before .before .before .before .pre .0 .1, omega (arith, c .before .before .block-of2 .ensures, c .before .before .before .before .if1 .taken, ordered c))
 
 returns : tie.Need-returns
 returns c =
-    let s = c .before .before .before .before .before .before .before .before .before .before in
-    let first = c .before .before .before .before .before .block-of in
-    let last = c .before .before .before .before .block-of2 in
+    let s = c .before .before .before .before .before .before .before .before .before in
+    let first = c .before .before .before .before .block-of in
+    let last = c .before .before .before .block-of2 in
     λ r. run-true (s .args .block) (s .args .plugged .now) (s .args .offset .0) (s .args .more) (s .pre .0 .0) (first .result .0) (last .result .0) (first .ensures) (last .ensures)
     (sym (c .all-set .ensures) ∙ r)
 
@@ -52,5 +52,5 @@ returns-2 c = λ r e h. absurd (never (sym r))
 pub run-plugged-spec : {M : Type 1} → statement M
 run-plugged-spec =
     tie.close
-    (tie.spec add-if1 div-if1 block-of-requires block-of-requires-2 sub-count (λ c. search needs) add-count (λ c. search needs)
+    (tie.spec add-if1 div-if1 block-of-requires block-of-requires-2 sub-count (λ c. search needs) add-count
     all-set-requires returns returns-2)

@@ -23,15 +23,15 @@ ok c = is-accepted _ _ _ (c .before .before .check-map .ensures) (sym (c .before
 -- what the rules say of the map's region
 ruled : (c : tie.After-setup-ok) → let a = c .before .before .before .before .before .before .before .args in
     c .setup-ok .result ≡ setupOk (a .values .«block_size») (a .values .addr .0) (regionSize (mapOf (a .map .now))) (a .values .«usable_size») (a .values .«requested_size»)
-ruled c = rw (← c .before .before .region-size .ensures) (c .setup-ok .ensures)
+ruled c = rw (← c .before .before .managed-size .ensures) (c .setup-ok .ensures)
 
-region-size-requires : tie.Need-region-size-requires
-region-size-requires c κs = record { words = accepted-words _ _ (ok c); few = accepted-sound _ _ (ok c) .count }
+managed-size-requires : tie.Need-managed-size-requires
+managed-size-requires c κs = record { words = accepted-words _ _ (ok c); few = accepted-sound _ _ (ok c) .count }
 
 returns : tie.Need-returns
 returns c = let t = c .before .before .before .before in
     let passed = passed-reply (reply (t .before .before .check-map .result)) (sym (t .before .accepts .ensures) ∙ t .if1 .taken) in
-    rw (passed, c .before .before .before .region-size .ensures) (set-up-done _ _ _ (ok t) (sym (ruled (c .before)) ∙ c .if2 .taken))
+    rw (passed, c .before .before .before .managed-size .ensures) (set-up-done _ _ _ (ok t) (sym (ruled (c .before)) ∙ c .if2 .taken))
 
 returns-2 : tie.Need-returns-2
 returns-2 c = ap (with-device (plain 13)) (c .no-device .ensures) ∙ set-up-values _ _ _ (ok (c .before .before .before .before .before)) (sym (ruled (c .before .before)) ∙ c .before .if2 .left)
@@ -42,5 +42,5 @@ returns-3 c = ap (with-device (reply (c .before .before .before .check-map .resu
 pub set-up-spec : {M : Type 1} → statement M
 set-up-spec =
     tie.close
-    (tie.spec (λ c κs. search needs) (λ c κs. search needs) region-size-requires (λ c κs. search needs) returns (λ c κs. search needs)
+    (tie.spec (λ c κs. search needs) (λ c κs. search needs) managed-size-requires (λ c κs. search needs) returns (λ c κs. search needs)
     returns-2 (λ c κs. search needs) returns-3)

@@ -1,5 +1,5 @@
 -- `memory_device::state::set_requested` meets its contract. Assumes nothing.
-use Rattle.memory_device.proofs.LentLaws.{requested-stored}
+use Rattle.memory_device.proofs.CallLaws.{requested-stored}
 use borrow.Author.Needs.{needs}
 use Rattle.memory_device.proofs.state.set_requested.Statement.{statement}
 use Rattle.memory_device.proofs.state.set_requested.Tie as tie

@@ -7,11 +7,11 @@ use Rattle.region_map.proofs.pieces.free_until.Tie as tie
 
 returns-2 : tie.Need-returns-2
 returns-2 c =
-    let s = c .before .before .before .before .before .before .before in
-    let e = c .before .before .before .piece-at .ensures .first in
-    free-least (s .args .table .now) (s .args .i) (s .args .a) (s .args .end) (c .least .result)
-    (c .before .before .before .before .if1 .taken) (omega (arith, c .before .if2 .left, e)) (s .pre .1 .1) (omega (arith, c .least .ensures, e)) (omega (arith, c .least .ensures))
-    (λ h. omega (arith, c .least .ensures, e))
+    let s = c .before .before .before .before .before .before .before .before in
+    let e = c .before .before .before .before .piece-at .ensures .first in
+    free-least (s .args .table .now) (s .args .i) (s .args .a .0) (s .args .end .0) (c .nearer .result .0)
+    (c .before .before .before .before .before .if1 .taken) (omega (arith, c .before .if2 .left, e)) (s .pre .1 .1) (omega (arith, c .nearer .ensures, e)) (omega (arith, c .nearer .ensures))
+    (λ h. omega (arith, c .nearer .ensures, e))
 
 pub free-until-spec : {M : Type 1} → statement M
 free-until-spec =

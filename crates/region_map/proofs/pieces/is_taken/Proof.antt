@@ -8,8 +8,8 @@ use Rattle.region_map.proofs.pieces.is_taken.Tie as tie
 
 returns : tie.Need-returns
 returns c =
-    let s = c .before .before .before .before .before in
-    rw (lt-ltb (s .args .i) (countOf (s .args .table .now)) (c .before .before .if1 .taken), c .before .piece-at .ensures .first)
+    let s = c .before .before .before .before .before .before in
+    rw (lt-ltb (s .args .i) (countOf (s .args .table .now)) (c .before .before .before .if1 .taken), c .before .before .piece-at .ensures .first)
 
 returns-2 : tie.Need-returns-2
 returns-2 c =

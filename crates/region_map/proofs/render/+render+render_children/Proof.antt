@@ -1,6 +1,6 @@
 -- `region_map::render::render` and `render_children` meet their contracts, as one cycle of calls: the measure is the region number and the children left. Assumes nothing.
 use mathlib.Core.Bool.{true}
-use mathlib.Core.Path.{_≡_, _∙_}
+use mathlib.Core.Path.{_≡_, refl, _∙_}
 use mathlib.Core.Logic.{⊎-elim}
 use native.Mathlib.Omega.{arith}
 use Rattle.map_check.specs.Clash.{priorityOf}
@@ -21,6 +21,7 @@ use Rattle.region_map.proofs.render.render_children.Kinds as render-chi
 use Rattle.region_map.proofs.render.+render+render_children.Lts-render_children as render-children-lts
 use Rattle.region_map.proofs.children.next_child.Reads as next-child-reads
 use Rattle.region_map.proofs.pieces.fill.Reads as fill-reads
+use Rattle.region_map.proofs.pieces.horizon.Reads as horizon-reads
 use Rattle.map_records.proofs.numbers.least.Reads as least-reads
 use Rattle.map_records.proofs.words.region_at.Reads as region-at-reads
 use Rattle.region_map.proofs.render.+render+render_children.{statement}
@@ -56,7 +57,7 @@ render-children-below t =
 
 -- what the two members' calls ask and give below the measure t
 abbrev render-calls : ℕ → render-lts.Claims
-render-calls t = (region-at-reads.Asked, region-at-reads.Learnt, least-reads.Asked, least-reads.Learnt, render-below t, render.Post, render-children-below t, render-children.Post)
+render-calls t = (region-at-reads.Asked, region-at-reads.Learnt, horizon-reads.Asked, horizon-reads.Learnt, least-reads.Asked, least-reads.Learnt, render-below t, render.Post, render-children-below t, render-children.Post)
 
 abbrev children-calls : ℕ → render-children-lts.Claims
 children-calls t = (next-child-reads.Asked, next-child-reads.Learnt, region-at-reads.Asked, region-at-reads.Learnt, fill-reads.Asked, fill-reads.Learnt, render-below t, render.Post, render-children-below t, render-children.Post)
@@ -91,37 +92,40 @@ render-returns t c =
     let x = c .before .before .before .before .before .before .region-at in
     nothing-there (mapOf (a .map .now)) (a .n) (x .result) (x .ensures) _ (a .at .first .0) (a .at .offset .0) (a .at .end .0) (s .pre .1 .1 .kept) (c .if1 .taken)
 
-render-slice-read-if2 : (t : ℕ) → render-lts.Need-slice-read-if2 (render-calls t) (render-at t) render.Post
-render-slice-read-if2 t c = omega (arith, c .before .before .before .before .before .before .before .before .before .before .pre .1 .1 .kept .size)
+render-horizon-requires : (t : ℕ) → render-lts.Need-horizon-requires (render-calls t) (render-at t) render.Post
+render-horizon-requires t c κs = c .before .before .before .before .before .before .before .before .before .before .pre .1 .1 .kept .size
+
+render-same-length : (t : ℕ) → render-lts.Need-same-length (render-calls t) (render-at t) render.Post
+render-same-length t c = refl
 
 render-returns-2 : (t : ℕ) → render-lts.Need-returns-2 (render-calls t) (render-at t) render.Post
 render-returns-2 t c =
-    let s = c .before .before .before .before .before .before .before .before .before .before .before .before in
+    let s = c .before .before .before .before .before .before .before .before .before .before .before .before .before .before in
     let a = s .args in
-    not-reached (walk (mapOf (a .map .now)) (a .n)) _ (a .at .first .0) (a .at .offset .0) (a .at .end .0) (s .pre .1 .1 .kept) (c .if2 .taken)
+    not-reached (walk (mapOf (a .map .now)) (a .n)) _ (a .at .first .0) (a .at .offset .0) (a .at .end .0) (s .pre .1 .1 .kept) (omega (arith, c .before .before .before .horizon .ensures, c .if2 .taken))
 
 render-sub-least : (t : ℕ) → render-lts.Need-sub-least (render-calls t) (render-at t) render.Post
-render-sub-least t c = omega (arith, some t (c .before .before .before .before .before) .0)
+render-sub-least t c = omega (arith, some t (c .before .before .before .before .before .before .before) .0)
 
 render-sub-least-2 : (t : ℕ) → render-lts.Need-sub-least-2 (render-calls t) (render-at t) render.Post
-render-sub-least-2 t c = omega (arith, some t (c .before .before .before .before .before .before) .1)
+render-sub-least-2 t c = omega (arith, some t (c .before .before .before .before .before .before .before .before) .1)
 
 render-least-requires : (t : ℕ) → render-lts.Need-least-requires (render-calls t) (render-at t) render.Post
 render-least-requires t c κs = tt
 
-render-add-t18 : (t : ℕ) → render-lts.Need-add-t18 (render-calls t) (render-at t) render.Post
-render-add-t18 t c = omega (arith, some t (c .before .before .before .before .before .before .before .before) .0, c .before .before .before .before .before .before .before .before .before .before .before .before .before .before .before .before .before .pre .1 .1 .to, c .before .least .ensures)
+render-add-t20 : (t : ℕ) → render-lts.Need-add-t20 (render-calls t) (render-at t) render.Post
+render-add-t20 t c = omega (arith, some t (c .before .before .before .before .before .before .before .before .before .before) .0, c .before .before .before .before .before .before .before .before .before .before .before .before .before .before .before .before .before .before .before .pre .1 .1 .to, c .before .least .ensures)
 
-render-add-t19 : (t : ℕ) → render-lts.Need-add-t19 (render-calls t) (render-at t) render.Post
-render-add-t19 t c =
-    let e = c .before .before .before .before .before .before .before .before .before .before .before .before in
+render-add-t21 : (t : ℕ) → render-lts.Need-add-t21 (render-calls t) (render-at t) render.Post
+render-add-t21 t c =
+    let e = c .before .before .before .before .before .before .before .before .before .before .before .before .before .before in
     let f = known t e in
     omega (arith, some t e .1, f .0, f .1)
 
 render-render-requires : (t : ℕ) → render-lts.Need-render-requires (render-calls t) (render-at t) render.Post
 render-render-requires t c κs =
-    let s = c .before .before .before .before .before .before .before .before .before .before .before .before .before .before .before .before .before .before .before .before .before .before in
-    let e = c .before .before .before .before .before .before .before .before .before .before .before .before .before in
+    let s = c .before .before .before .before .before .before .before .before .before .before .before .before .before .before .before .before .before .before .before .before .before .before .before .before in
+    let e = c .before .before .before .before .before .before .before .before .before .before .before .before .before .before .before in
     let h = some t e in
     let f = known t e in
     let low = f .2 (c .before .before .before .if3 .taken) in
@@ -135,8 +139,8 @@ render-render-requires t c κs =
 
 render-render-children-requires : (t : ℕ) → render-lts.Need-render-children-requires (render-calls t) (render-at t) render.Post
 render-render-children-requires t c κs =
-    let s = c .before .before .before .before .before .before .before .before .before .before .before .before .before .before .before .before .before .before .before .before in
-    let e = c .before .before .before .before .before .before .before .before .before .before .before in
+    let s = c .before .before .before .before .before .before .before .before .before .before .before .before .before .before .before .before .before .before .before .before .before .before in
+    let e = c .before .before .before .before .before .before .before .before .before .before .before .before .before in
     let h = some t e in
     let f = known t e in
     let w = s .pre .1 .1 in (
@@ -151,30 +155,30 @@ render-render-children-requires t c κs =
       ),
     )
 
-render-same-length : (t : ℕ) → render-lts.Need-same-length (render-calls t) (render-at t) render.Post
-render-same-length t c = behind-size (c .before .before .before .before .before .before .before .before .before .before .before .before .before .before .before .before .before .before .before .before .before .before .before .before .before .pre .1 .1 .kept) (c .before .before .render .ensures)
+render-same-length-2 : (t : ℕ) → render-lts.Need-same-length-2 (render-calls t) (render-at t) render.Post
+render-same-length-2 t c = behind-size (c .before .before .before .before .before .before .before .before .before .before .before .before .before .before .before .before .before .before .before .before .before .before .before .before .before .before .before .pre .1 .1 .kept) (c .before .before .render .ensures)
 
 render-returns-3 : (t : ℕ) → render-lts.Need-returns-3 (render-calls t) (render-at t) render.Post
 render-returns-3 t c =
+    let s = c .before .before .before .before .before .before .before .before .before .before .before .before .before .before .before .before .before .before .before .before .before .before .before .before .before .before .before in
+    let a = s .args in
+    let e = c .before .before .before .before .before .before .before .before .before .before .before .before .before .before .before .before .before .before in
+    let h = some t e in
+    let x = c .before .before .before .before .before .before .before .before .before .before .before .before .before .before .before .before .before .before .before .before .before .before .before .before .region-at in
+    let l = c .before .before .before .before .before .before .before .before .before .least in
+    through-alias (mapOf (a .map .now)) (a .n) (x .result) (x .ensures) (a .at .first .0) (a .at .offset .0) (a .at .end .0) (l .result) (l .ensures) (h .0) (h .1)
+    (s .pre .1 .0 .tree .walkable) (s .pre .1 .0 .below) (c .before .before .before .before .before .before .if3 .taken) (c .before .before .render .ensures)
+
+render-same-length-3 : (t : ℕ) → render-lts.Need-same-length-3 (render-calls t) (render-at t) render.Post
+render-same-length-3 t c = behind-size (c .before .before .before .before .before .before .before .before .before .before .before .before .before .before .before .before .before .before .before .before .before .before .before .before .before .pre .1 .1 .kept) (c .before .before .render-children .ensures)
+
+render-returns-4 : (t : ℕ) → render-lts.Need-returns-4 (render-calls t) (render-at t) render.Post
+render-returns-4 t c =
     let s = c .before .before .before .before .before .before .before .before .before .before .before .before .before .before .before .before .before .before .before .before .before .before .before .before .before in
     let a = s .args in
     let e = c .before .before .before .before .before .before .before .before .before .before .before .before .before .before .before .before in
     let h = some t e in
     let x = c .before .before .before .before .before .before .before .before .before .before .before .before .before .before .before .before .before .before .before .before .before .before .region-at in
-    let l = c .before .before .before .before .before .before .before .before .before .least in
-    through-alias (mapOf (a .map .now)) (a .n) (x .result) (x .ensures) (a .at .first .0) (a .at .offset .0) (a .at .end .0) (l .result) (l .ensures) (h .0) (h .1)
-    (s .pre .1 .0 .tree .walkable) (s .pre .1 .0 .below) (c .before .before .before .before .before .before .if3 .taken) (c .before .before .render .ensures)
-
-render-same-length-2 : (t : ℕ) → render-lts.Need-same-length-2 (render-calls t) (render-at t) render.Post
-render-same-length-2 t c = behind-size (c .before .before .before .before .before .before .before .before .before .before .before .before .before .before .before .before .before .before .before .before .before .before .before .pre .1 .1 .kept) (c .before .before .render-children .ensures)
-
-render-returns-4 : (t : ℕ) → render-lts.Need-returns-4 (render-calls t) (render-at t) render.Post
-render-returns-4 t c =
-    let s = c .before .before .before .before .before .before .before .before .before .before .before .before .before .before .before .before .before .before .before .before .before .before .before in
-    let a = s .args in
-    let e = c .before .before .before .before .before .before .before .before .before .before .before .before .before .before in
-    let h = some t e in
-    let x = c .before .before .before .before .before .before .before .before .before .before .before .before .before .before .before .before .before .before .before .before .region-at in
     let l = c .before .before .before .before .before .before .before .least in
     through-children (mapOf (a .map .now)) (a .n) (x .result) (x .ensures) (a .at .first .0) (a .at .offset .0) (a .at .end .0) (l .result) (l .ensures) (h .0) (h .1)
     (c .before .before .before .before .if3 .left) (c .before .before .render-children .ensures)
@@ -294,18 +298,19 @@ pub +render+render-children-spec : {M : Type 1} → statement M
     render.Post
     (render-region-at-requires t)
     (render-returns t)
-    (render-slice-read-if2 t)
+    (render-horizon-requires t)
+    (render-same-length t)
     (render-returns-2 t)
     (render-sub-least t)
     (render-sub-least-2 t)
     (render-least-requires t)
-    (render-add-t18 t)
-    (render-add-t19 t)
+    (render-add-t20 t)
+    (render-add-t21 t)
     (render-render-requires t)
     (render-render-children-requires t)
-    (render-same-length t)
-    (render-returns-3 t)
     (render-same-length-2 t)
+    (render-returns-3 t)
+    (render-same-length-3 t)
     (render-returns-4 t))
     λ t. render-children-lts.spec (children-calls t)
     (render-children-at t)

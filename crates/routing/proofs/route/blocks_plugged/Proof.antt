@@ -8,11 +8,11 @@ use Rattle.routing.proofs.RouteLaws.{first-off, one-block, two-blocks}
 use Rattle.routing.proofs.route.blocks_plugged.Statement.{statement}
 use Rattle.routing.proofs.route.blocks_plugged.Tie as tie
 
-is-plugged-requires : tie.Need-is-plugged-requires
-is-plugged-requires c κs = (omega (arith, c .before .pre .0 .0), c .before .pre .0 .1)
+byte-plugged-requires : tie.Need-byte-plugged-requires
+byte-plugged-requires c κs = (omega (arith, c .before .pre .0 .0), c .before .pre .0 .1)
 
 returns : tie.Need-returns
-returns c = let s = c .before .before .before in sym (first-off (s .args .block) (s .args .plugged .now) (s .args .offset .0) (s .args .w) (s .pre .0 .0) (s .pre .1 .0) (s .pre .1 .1) (sym (c .before .is-plugged .ensures) ∙ not-true _ (c .if1 .taken)))
+returns c = let s = c .before .before .before in sym (first-off (s .args .block) (s .args .plugged .now) (s .args .offset .0) (s .args .w) (s .pre .0 .0) (s .pre .1 .0) (s .pre .1 .1) (sym (c .before .byte-plugged .ensures) ∙ not-true _ (c .if1 .taken)))
 
 sub-if2 : tie.Need-sub-if2
 sub-if2 c = omega (arith, c .before .before .before .pre .1 .0)
@@ -31,7 +31,7 @@ sub-if2-3 c =
 returns-2 : tie.Need-returns-2
 returns-2 c =
     let s = c .before .before .before .before .before in
-    sym (one-block (s .args .block) (s .args .plugged .now) (s .args .offset .0) (s .args .w) (s .pre .0 .0) (s .pre .1 .0) (s .pre .1 .1) (sym (c .before .before .before .is-plugged .ensures) ∙ not-false _ (c .before .before .if1 .left)) (c .if2 .taken))
+    sym (one-block (s .args .block) (s .args .plugged .now) (s .args .offset .0) (s .args .w) (s .pre .0 .0) (s .pre .1 .0) (s .pre .1 .1) (sym (c .before .before .before .byte-plugged .ensures) ∙ not-false _ (c .before .before .if1 .left)) (c .if2 .taken))
 
 sub-t8 : tie.Need-sub-t8
 sub-t8 c = omega (arith, c .before .before .before .before .before .pre .1 .0)
@@ -39,13 +39,13 @@ sub-t8 c = omega (arith, c .before .before .before .before .before .pre .1 .0)
 add-t9 : tie.Need-add-t9
 add-t9 c = omega (arith, c .before .before .before .before .before .before .pre .1)
 
-is-plugged-requires-2 : tie.Need-is-plugged-requires-2
-is-plugged-requires-2 c κs = (omega (arith, c .before .before .before .before .before .before .pre .0 .0), c .before .before .before .before .before .before .pre .0 .1)
+byte-plugged-requires-2 : tie.Need-byte-plugged-requires-2
+byte-plugged-requires-2 c κs = (omega (arith, c .before .before .before .before .before .before .pre .0 .0), c .before .before .before .before .before .before .pre .0 .1)
 
 returns-3 : tie.Need-returns-3
 returns-3 c =
     let s = c .before .before .before .before .before .before .before in
-    c .is-plugged2 .ensures ∙ two-blocks (s .args .block) (s .args .plugged .now) (s .args .offset .0) (s .args .w) (s .pre .0 .0) (s .pre .1 .0) (s .pre .1 .1) (sym (c .before .before .before .before .before .is-plugged .ensures) ∙ not-false _ (c .before .before .before .before .if1 .left))
+    c .byte-plugged2 .ensures ∙ two-blocks (s .args .block) (s .args .plugged .now) (s .args .offset .0) (s .args .w) (s .pre .0 .0) (s .pre .1 .0) (s .pre .1 .1) (sym (c .before .before .before .before .before .byte-plugged .ensures) ∙ not-false _ (c .before .before .before .before .if1 .left))
 
 pub blocks-plugged-spec : {M : Type 1} → statement M
-blocks-plugged-spec = tie.close (tie.spec is-plugged-requires returns sub-if2 sub-if2-2 rem-if2 sub-if2-3 returns-2 sub-t8 add-t9 is-plugged-requires-2 returns-3)
+blocks-plugged-spec = tie.close (tie.spec byte-plugged-requires returns sub-if2 sub-if2-2 rem-if2 sub-if2-3 returns-2 sub-t8 add-t9 byte-plugged-requires-2 returns-3)

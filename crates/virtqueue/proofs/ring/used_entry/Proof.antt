@@ -1,18 +1,16 @@
 -- `virtqueue::ring::used_entry` meets its contract. Assumes nothing.
-use native.Mathlib.Nat.{mod-lt}
+use Prim.Native.Nat.{_%_, _<_}
 use native.Mathlib.Omega.{arith}
 use borrow.Author.Needs.{needs}
+use Rattle.virtqueue.proofs.QueueLaws.{slot-low}
 use Rattle.virtqueue.proofs.ring.used_entry.Statement.{statement}
 use Rattle.virtqueue.proofs.ring.used_entry.Tie as tie
 
-cast-slot : tie.Need-cast-slot
-cast-slot c = omega (arith, mod-lt (c .args .count) (c .pre .1), c .fits)
-
-mul-t7 : tie.Need-mul-t7
-mul-t7 c = omega (arith, mod-lt (c .before .args .count) (c .before .pre .1), c .before .fits)
-
-add-t8 : tie.Need-add-t8
-add-t8 c = omega (arith, mod-lt (c .before .args .count) (c .before .pre .1), c .before .fits, c .before .pre .0)
+slot : (s : tie.Start) → s .args .count % s .args .size < 65536
+slot s = slot-low (s .args .count) (s .pre .1) (omega (arith, s .fits))
 
 pub used-entry-spec : {M : Type 1} → statement M
-used-entry-spec = tie.close (tie.spec (λ c. search needs) cast-slot (λ c. search needs) mul-t7 add-t8 (λ c. search needs))
+used-entry-spec =
+    tie.close
+    (tie.spec (λ c. search needs) (λ c. omega (arith, slot c)) (λ c. search needs) (λ c. omega (arith, slot (c .before)))
+    (λ c. omega (arith, slot (c .before), c .before .pre .0)) (λ c. search needs))

@@ -1,17 +1,16 @@
 -- `wicktumble::devices::say_block` meets its contract. Assumes nothing.
 use borrow.Author.Needs.{needs}
-use Rattle.wicktumble.proofs.CallLaws.{says}
 use Rattle.wicktumble.proofs.devices.say_block.Statement.{statement}
 use Rattle.wicktumble.proofs.devices.say_block.Tie as tie
 
 returns : tie.Need-returns
-returns c = rw (c .before .before .before .found .given .1) (says (c .say .ensures))
+returns c = rw (c .before .before .before .found .given .1) (c .say-two .ensures)
 
 returns-2 : tie.Need-returns-2
-returns-2 c = rw (c .before .enum-told .given .1) (says (c .say2 .ensures))
+returns-2 c = rw (c .before .enum-told .given .1) (c .say .ensures)
 
 returns-3 : tie.Need-returns-3
-returns-3 c = rw (c .before .enum-told2 .given .1) (says (c .say3 .ensures))
+returns-3 c = rw (c .before .enum-told2 .given .1) (c .say2 .ensures)
 
 pub say-block-spec : {M : Type 1} → statement M
 say-block-spec =

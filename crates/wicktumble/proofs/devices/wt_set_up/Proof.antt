@@ -8,7 +8,7 @@ use Rattle.map_check.proofs.Bools.{and-fst, and-snd}
 use Rattle.map_records.specs.Limits.{isMap}
 use Rattle.device_words.specs.Words.{isDevice, deviceLength}
 use Rattle.memory_device.specs.Record.{HostOutcome}
-use Rattle.memory_device.specs.Lent.{wordsLeft}
+use Rattle.memory_device.specs.Leaves.{wordsLeft}
 use Rattle.wicktumble.specs.Result.{isResult}
 use Rattle.wicktumble.specs.Devices.{setUpCall}
 use Rattle.wicktumble.proofs.CallLaws.{taken, refused, result-fits, unmade-as, reply-made}

@@ -1,6 +1,6 @@
 -- `memory_device::device::MemoryDevice::carry_out` meets its contract. Assumes nothing.
 use Rattle.memory_device.specs.Record.{recordOf}
-use Rattle.memory_device.proofs.LentLaws.{carried-value}
+use Rattle.memory_device.proofs.CallLaws.{carried-value}
 use borrow.Author.Needs.{needs}
 use Rattle.memory_device.proofs.device.MemoryDevice.carry_out.Statement.{statement}
 use Rattle.memory_device.proofs.device.MemoryDevice.carry_out.Tie as tie

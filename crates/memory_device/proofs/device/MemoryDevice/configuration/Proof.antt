@@ -1,6 +1,6 @@
 -- `memory_device::device::MemoryDevice::configuration` meets its contract. Assumes nothing.
 use Rattle.memory_device.specs.Record.{recordOf}
-use Rattle.memory_device.proofs.LentLaws.{configured-value}
+use Rattle.memory_device.proofs.CallLaws.{configured-value}
 use borrow.Author.Needs.{needs}
 use Rattle.memory_device.proofs.device.MemoryDevice.configuration.Statement.{statement}
 use Rattle.memory_device.proofs.device.MemoryDevice.configuration.Tie as tie

@@ -3,7 +3,7 @@ use Rattle.memory_device.specs.Record.{recordOf}
 use mathlib.Core.Bool.{true}
 use Rattle.device_words.specs.Device.{MemoryDevice, withPins, withPin}
 use Rattle.memory_device.specs.Host.{pinBlock, pinFault}
-use Rattle.memory_device.proofs.LentLaws.{by-value, whole-pinned}
+use Rattle.memory_device.proofs.CallLaws.{by-value, whole-pinned}
 use borrow.Author.Needs.{needs}
 use Rattle.memory_device.proofs.device.MemoryDevice.pin.Statement.{statement}
 use Rattle.memory_device.proofs.device.MemoryDevice.pin.Tie as tie

@@ -2,7 +2,7 @@
 use Rattle.memory_device.specs.Record.{recordOf}
 use Rattle.device_words.specs.Device.{MemoryDevice}
 use Rattle.memory_device.specs.Host.{resized, sizeFault, withRequested}
-use Rattle.memory_device.proofs.LentLaws.{by-value, whole-requested}
+use Rattle.memory_device.proofs.CallLaws.{by-value, whole-requested}
 use borrow.Author.Needs.{needs}
 use Rattle.memory_device.proofs.device.MemoryDevice.set_requested_size.Statement.{
   statement,

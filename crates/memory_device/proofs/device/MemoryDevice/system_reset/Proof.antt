@@ -3,7 +3,7 @@ use Rattle.memory_device.specs.Record.{recordOf}
 use mathlib.Core.Bool.{false}
 use Rattle.device_words.specs.Device.{MemoryDevice, fresh}
 use Rattle.memory_device.specs.Host.{systemReset}
-use Rattle.memory_device.proofs.LentLaws.{by-value, whole-fresh}
+use Rattle.memory_device.proofs.CallLaws.{by-value, whole-fresh}
 use borrow.Author.Needs.{needs}
 use Rattle.memory_device.proofs.device.MemoryDevice.system_reset.Statement.{statement}
 use Rattle.memory_device.proofs.device.MemoryDevice.system_reset.Tie as tie

@@ -3,7 +3,7 @@ use Rattle.memory_device.specs.Record.{recordOf}
 use mathlib.Core.Bool.{false, not}
 use Rattle.device_words.specs.Device.{MemoryDevice, isPinned, withPins, withPin}
 use Rattle.memory_device.specs.Host.{unpinBlock}
-use Rattle.memory_device.proofs.LentLaws.{by-value, whole-pinned}
+use Rattle.memory_device.proofs.CallLaws.{by-value, whole-pinned}
 use borrow.Author.Needs.{needs}
 use Rattle.memory_device.proofs.device.MemoryDevice.unpin.Statement.{statement}
 use Rattle.memory_device.proofs.device.MemoryDevice.unpin.Tie as tie
