@@ -1,21 +1,20 @@
 -- Laws of what a list of ranges gives an address: the range that holds it, the bytes that lie in the memory, reach. Assumes nothing.
 use mathlib.Core.Path.{_≡_, refl, sym, ap, _∙_}
-use mathlib.Core.Bool.{Bool, true, false, cond, _&&_, _||_}
-use mathlib.Core.List.{List, [], _∷_}
+use mathlib.Core.Bool.{Bool, true, false, _&&_, _||_}
+use mathlib.Core.List.{List}
 use Prim.Native.Nat.{ℕ, zero, suc, _+_, _-_, _^_, _≤_, _<_}
 use native.Mathlib.Nat.{add-zero}
 use native.Mathlib.Omega.{arith}
-use lib.Dec.{eqb, leb}
-use lib.ListN.{length, getD, length-take}
+use lib.Dec.{eqb}
+use lib.ListN.{getD, length-take}
 use lib.Seq.{getD-take}
-use borrow.Author.Tests.{leb-true}
 use Rattle.map_records.specs.Map.{ram, managed, hasMemory}
-use Rattle.region_map.specs.FlatList.{inside}
 use Rattle.map_records.specs.View.{entries, noRange}
 use Rattle.map_records.specs.View.{rangeOf}
 use Rattle.map_records.specs.declared.view.FlatRange.{FlatRange}
 use Rattle.map_records.specs.declared.view.FlatView.{FlatView}
 use Rattle.map_check.proofs.Bools.{never, and-fst, and-snd}
+use Rattle.region_map.proofs.ListLaws.{Held, held}
 use Rattle.device_words.specs.Device.{pluggedIn}
 use Rattle.guest_view.specs.Guest.{Leaf, nowhere, leaf, leafIn, leafAt, reachLeaf, placeLeaf, viewGuest, allReach}
 use Rattle.guest_view.specs.Contracts.{memoryLeaf, Ordered, Backed, InMemory, placeIn}
@@ -54,33 +53,10 @@ memory-part v a n o k m h =
 pub memory-front : (v : FlatView) (a n k : ℕ) → InMemory v a n → k ≤ n → InMemory v a k
 memory-front v a n k m h = record { each = λ i p. m .each i (omega arith) }
 
--- an address that answers has a range that holds it
-pub record Held (l : List FlatRange) (a : ℕ) : Type 0 where
-  pub at : ℕ
-  pub below : at < length l
-  pub low : getD l at noRange .first .0 ≤ a
-  pub high : a ≤ getD l at noRange .last .0
-  pub gives : leafAt l a ≡ leafIn (getD l at noRange) a
-
-pub held-by : (l : List FlatRange) (a : ℕ) → memoryLeaf (leafAt l a) ≡ true → Held l a
-unfolding leafAt inside
-held-by [] a h = absurd (never (sym h))
-held-by (x ∷ xs) a h = go (inside x a) refl (held-by xs a)
-  where
-    in-low : inside x a ≡ true → (x .first .0 ≤ a) × (a ≤ x .last .0)
-    in-low e = (leb-true _ _ (and-fst (leb (x .first .0) a) (leb a (x .last .0)) e), leb-true _ _ (and-snd (leb (x .first .0) a) (leb a (x .last .0)) e))
-
-    go : (b : Bool) → inside x a ≡ b → (memoryLeaf (leafAt xs a) ≡ true → Held xs a) → Held (x ∷ xs) a
-    go true e f = record { at = 0; below = omega arith; low = in-low e .0; high = in-low e .1; gives = ap (λ (b : Bool). cond b (leafIn x a) (leafAt xs a)) e }
-    go false e f =
-        let q : cond (inside x a) (leafIn x a) (leafAt xs a) ≡ leafAt xs a = ap (λ (b : Bool). cond b (leafIn x a) (leafAt xs a)) e in
-        let r = f (sym (ap memoryLeaf q) ∙ h) in
-        record { at = suc (r .at); below = omega (arith, r .below); low = r .low; high = r .high; gives = q ∙ r .gives }
-
 -- what a byte of the memory says of the view's bounds
 module _ (v : FlatView) (a : ℕ) (h : memoryLeaf (leafAt (entries v) a) ≡ true) where
-  holder : Held (entries v) a
-  holder = held-by (entries v) a h
+  holder : Held nowhere leafIn (entries v) a
+  holder = held nowhere leafIn (entries v) a (λ e. never (sym h ∙ ap memoryLeaf e))
 
   holder-below : holder .at < v .count
   holder-below = let x = holder .below in omega (arith, length-take (v .count) (v .ranges))
@@ -95,7 +71,7 @@ module _ (v : FlatView) (a : ℕ) (h : memoryLeaf (leafAt (entries v) a) ≡ tru
   holder-low = let x = holder .low in rw (← holder-is) x
 
   holder-gives : leafAt (entries v) a ≡ leafIn (rangeOf v (holder .at)) a
-  holder-gives = holder .gives ∙ ap (λ (r : FlatRange). leafIn r a) holder-is
+  holder-gives = holder .given ∙ ap (λ (r : FlatRange). leafIn r a) holder-is
 
   holder-kind : hasMemory (rangeOf v (holder .at) .kind) ≡ true
   holder-kind = sym (ap memoryLeaf holder-gives) ∙ h

@@ -25,10 +25,10 @@ module _ (v : FlatView) (a n i : ℕ) (m : InMemory v a n) (h : i < n) where
   byte-place memory p b e = omega (arith, e, place-below v (a + i) (m .each i h) memory b)
 
 -- ---- the state of a loop that fills a slice with what the addresses from a on give, i of them done
-pub addresses-length : (a n : ℕ) → length (addresses a n) ≡ n
+pub length-addresses : (a n : ℕ) → length (addresses a n) ≡ n
 unfolding addresses
-addresses-length a zero = refl
-addresses-length a (suc n) = ap suc (addresses-length (suc a) n)
+length-addresses a zero = refl
+length-addresses a (suc n) = ap suc (length-addresses (suc a) n)
 
 pub record Filling (f : ℕ → ℕ) (a : ℕ) (start out : List ℕ) (i : ℕ) : Type 0 where
   pub size : length out ≡ length start
@@ -40,7 +40,7 @@ fill-starts f a start =
       size = refl;
       rest =
           let p : length start - 0 ≡ length start = omega arith in
-          rw (p, add-zero a) (over (map f (addresses a (length start))) start (sym (simp length-map (addresses-length a (length start)))));
+          rw (p, add-zero a) (over (map f (addresses a (length start))) start (sym (simp length-map (length-addresses a (length start)))));
     }
 
 module _ (f : ℕ → ℕ) (a : ℕ) (start out : List ℕ) (i : ℕ) (filling : Filling f a start out i) where

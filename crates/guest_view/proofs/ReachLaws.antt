@@ -25,7 +25,8 @@ use Rattle.guest_view.specs.declared.reach.Extent.the-variants.{Go, Stop
 use Rattle.device_words.proofs.RuleLaws.{blocks-mono}
 use Rattle.device_words.proofs.TableLaws.{held-all}
 use Rattle.map_records.proofs.Order.{side}
-use Rattle.guest_view.proofs.FindLaws.{ends-before, none-holds, at-range}
+use Rattle.region_map.proofs.RangeTests.{inside-beyond}
+use Rattle.guest_view.proofs.FindLaws.{none-holds, at-range}
 
 -- a block goes on to its last byte
 pub same-block : (b o e : ℕ) → 0 < b → e ≤ b - 1 - o % b → (o + e) / b ≡ o / b
@@ -85,7 +86,7 @@ module _ (v : FlatView) (plugged : ℕ → Bool) where
   pub past-all : (full : v .count ≤ length (v .ranges)) → Ordered v → (a n : ℕ) → 0 < n → 2 ^ 48 ≤ a + (n - 1) → allReach reachIn a n ≡ false
   past-all full o a n p h =
       all-false reachIn a n (n - 1) (omega arith)
-      (ap (reachLeaf plugged) (none-holds v full (a + (n - 1)) (λ j jn. ends-before (rangeOf v j) (a + (n - 1)) (omega (arith, o .last j jn)))))
+      (ap (reachLeaf plugged) (none-holds v full (a + (n - 1)) (λ j jn. inside-beyond (rangeOf v j) (a + (n - 1)) (omega (arith, o .last j jn)))))
 
   -- from an address on, as far as its range goes
   module _ (a k : ℕ) (spot : Spot v a k) where

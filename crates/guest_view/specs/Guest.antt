@@ -1,11 +1,11 @@
 -- Where the guest's bytes lie: what an address answers, reach and memory place. Everything that a queue step asks of a map it asks through `Guest`, so that the step over the flat list and the step over the tree are one definition. Assumes nothing: these are definitions.
-use mathlib.Core.Bool.{Bool, true, false, cond, _&&_, _||_}
+use mathlib.Core.Bool.{Bool, true, false, _&&_, _||_}
 use mathlib.Core.List.{List, [], _∷_}
 use Prim.Native.Nat.{ℕ, zero, suc, _+_}
 use lib.Dec.{eqb}
 use lib.ListN.{getD, set}
 use Rattle.map_records.specs.Map.{ram, managed}
-use Rattle.region_map.specs.FlatList.{inside}
+use Rattle.region_map.specs.FlatList.{listGives}
 use Rattle.region_map.specs.Flatten.{backingOf}
 use Rattle.map_records.specs.View.{entries, offsetIn}
 use Rattle.region_map.specs.Walk.{walkRoot}
@@ -25,9 +25,9 @@ pub data Leaf : Type 0 where
 abbrev pub leafIn : FlatRange → ℕ → Leaf
 leafIn x a = leaf (x .region) (x .kind) (x .base) (offsetIn x a)
 
-unfoldable pub leafAt : List FlatRange → ℕ → Leaf
-leafAt [] a = nowhere
-leafAt (x ∷ xs) a = cond (inside x a) (leafIn x a) (leafAt xs a)
+-- what a list gives an address, with the node's values
+abbrev pub leafAt : List FlatRange → ℕ → Leaf
+leafAt = listGives nowhere leafIn
 
 -- what the walk answers, with the node's values
 abbrev pub leafOf : RegionMap → Resolved → Leaf

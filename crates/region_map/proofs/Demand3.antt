@@ -1,19 +1,18 @@
 -- Demand 3, first half, over an accepted map; 12 exactly at its cause; and that a made view keeps rule 27's facts. Assumes nothing.
-use mathlib.Core.Path.{_≡_, refl, sym, ap, subst, _∙_}
-use mathlib.Core.Bool.{Bool, true, false, _||_}
+use mathlib.Core.Path.{_≡_, sym, ap, subst, _∙_}
+use mathlib.Core.Bool.{true}
 use mathlib.Core.List.{List, [], _∷_}
 use Prim.Native.Nat.{ℕ, zero, suc, _-_, _≤_, _<_}
 use native.Mathlib.Decide.{decLt}
 use native.Mathlib.Omega.{arith}
-use lib.Dec.{eqb}
 use lib.ListN.{length, getD, replicate, List·getD-append}
 use lib.Seq.{take-append-seam}
-use borrow.Author.Tests.{lt-ltb, le-ltb, eq-eqb, ne-eqb, eqb-false}
-use Rattle.map_records.specs.Map.{ram, mmio, managed, region, hasMemory}
+use borrow.Author.Tests.{lt-ltb, le-ltb}
+use Rattle.map_records.specs.Map.{region, hasMemory}
 use Rattle.map_check.specs.Reply.{accepted, plain}
 use Rattle.map_check.specs.Check.{Accepted}
 use Rattle.region_map.specs.Walk.{walkRoot, walkRootBy}
-use Rattle.region_map.specs.FlatList.{flat, inside, rangeAnswer, lookup, LongestFrom, Longest}
+use Rattle.region_map.specs.FlatList.{flat, rangeAnswer, lookup, LongestFrom, Longest}
 use Rattle.region_map.specs.Flatten.{backingOf, rootSize, flatList, viewHolding, flatRefusal, listed, flattened, FirstHalf}
 use Rattle.map_records.specs.View.{noRange, entries}
 use Rattle.region_map.specs.ViewRules.{LawfulRange, Lawful}
@@ -28,7 +27,8 @@ use Rattle.region_map.proofs.WalkLaws.{past}
 use Rattle.region_map.proofs.LeafLaws.{root-leaf}
 use Rattle.region_map.specs.Visibility.{LeafOf}
 use Rattle.region_map.proofs.FlatLaws.{flat-gives, flat-beyond, flat-longest}
-use Rattle.region_map.proofs.UniqueLaws.{unique, sound, entry-at, here, later}
+use Rattle.region_map.proofs.UniqueLaws.{unique, sound, entry-at}
+use Rattle.region_map.proofs.ListLaws.{given-by}
 
 -- past the root the tree leads nowhere
 root-past : (m : RegionMap) (a : ℕ) → rootSize m ≤ a → walkRoot m a ≡ Nothing
@@ -92,14 +92,10 @@ module _ (backing : ℕ → Backing) where
   above-at (x ∷ []) (suc j) (suc k) c p h = absurd (omega arith)
   above-at (x ∷ (y ∷ ys)) (suc j) (suc k) c p h = above-at (y ∷ ys) j k (c .2) (omega arith) (omega arith)
 
-  given-at : (l : List FlatRange) (k a : ℕ) → Longest backing l → k < length l → getD l k noRange .first .0 ≤ a → a ≤ getD l k noRange .last .0
+  -- it gives its addresses
+  pub given-at : (l : List FlatRange) (k a : ℕ) → Longest backing l → k < length l → getD l k noRange .first .0 ≤ a → a ≤ getD l k noRange .last .0
       → lookup l a ≡ rangeAnswer (getD l k noRange) a
-  given-at [] k a c h p q = absurd (omega arith)
-  given-at (x ∷ xs) zero a c h p q = here backing x xs a p q
-  given-at (x ∷ []) (suc k) a c h p q = absurd (omega arith)
-  given-at (x ∷ (y ∷ ys)) (suc k) a c h p q =
-      let b = tail-above x (y ∷ ys) k c (omega arith) in
-      later backing x (y ∷ ys) a (omega arith) ∙ given-at (y ∷ ys) k a (c .2) (omega arith) p q
+  given-at l k a c h p q = given-by Nothing rangeAnswer l k a h p q (λ j i. omega (arith, above-at l j k c i h))
 
 module _ (m : RegionMap) (memory : ℕ) (ok : Accepted m memory) where
   -- a range of the map's list

@@ -11,7 +11,7 @@ use Rattle.region_map.specs.declared.resolve.Resolved.{Resolved}
 use Rattle.region_map.specs.declared.resolve.Resolved.the-variants.{Nothing, At}
 use Rattle.region_map.specs.declared.flat.Backing.{Backing}
 use Rattle.map_records.specs.declared.view.FlatRange.{FlatRange}
-use Rattle.region_map.specs.FlatList.{rangeFor, joins, pushAfter, push, extend, flat, inside, rangeAnswer, lookup}
+use Rattle.region_map.specs.FlatList.{rangeFor, joins, pushAfter, push, extend, flat, inside, listGives, rangeAnswer, lookup}
 use Rattle.region_map.specs.Contracts.{shift}
 use Rattle.region_map.specs.FlatList.{ValuedEntry, Longest}
 use Rattle.region_map.proofs.RangeTests.{Is, on, off, is, inside-on, inside-before, inside-beyond}
@@ -67,7 +67,7 @@ module _ (backing : ℕ → Backing) (f : ℕ → Resolved) where
 
   -- it gives f's answers below n, and nothing beyond
   pub flat-beyond : (n a : ℕ) → n ≤ a → lookup (flat backing f n) a ≡ Nothing
-  unfolding flat lookup
+  unfolding flat listGives
   flat-beyond zero a h = refl
   flat-beyond (suc n) a h =
       extend-other backing (flat backing f n) n (f n) a (flat-longest n) (flat-under n) (λ e. omega arith)

@@ -4,9 +4,10 @@ pub mod DeviceWindows
 mod FillLaws
 pub mod FlatLaws
 pub mod LeafLaws
+pub mod ListLaws
 mod PieceLaws
 mod PushLaws
-mod RangeTests
+pub mod RangeTests
 mod RenderLaws
 mod ResolveLaws
 pub mod UniqueLaws

@@ -7,7 +7,7 @@ use native.Mathlib.Omega.{arith}
 use Rattle.region_map.specs.declared.resolve.Resolved.the-variants.{Nothing, At}
 use Rattle.region_map.specs.declared.flat.Backing.{Backing}
 use Rattle.map_records.specs.declared.view.FlatRange.{FlatRange}
-use Rattle.region_map.specs.FlatList.{joins, grown, pushAfter, push, inside, rangeAnswer, lookup}
+use Rattle.region_map.specs.FlatList.{joins, grown, pushAfter, push, inside, listGives, rangeAnswer, lookup}
 use Rattle.region_map.specs.FlatList.{ValuedEntry, Follows, LongestFrom, Longest}
 use Rattle.region_map.proofs.RangeTests.{Is, on, off, is, Joined, joins-on, on-joins, Place, within, before, beyond, place, inside-on, inside-before, inside-beyond}
 
@@ -74,7 +74,7 @@ disjoint x r a h p q = go (inside x a) (inside r a) (place x a) (place r a) p q
 
 lookup-grown : (x r : FlatRange) (a : ℕ) → Joined x r → x .first .0 ≤ x .last .0 → r .first .0 ≤ r .last .0
     → lookup (grown x r ∷ []) a ≡ cond (inside r a) (rangeAnswer r a) (lookup (x ∷ []) a)
-unfolding lookup
+unfolding listGives
 lookup-grown x r a j hx hr = go (inside r a) (inside x a) (place r a) (place x a)
   where
     g : FlatRange
@@ -94,7 +94,7 @@ lookup-grown x r a j hx hr = go (inside r a) (inside x a) (place r a) (place x a
 module _ (backing : ℕ → Backing) (r : FlatRange) (sr : ValuedEntry backing r) where
   lookup-after : (x : FlatRange) (xs : List FlatRange) (a : ℕ) → LongestFrom backing x xs → Under (x ∷ xs) (r .first .0)
       → lookup (pushAfter x xs r) a ≡ cond (inside r a) (rangeAnswer r a) (lookup (x ∷ xs) a)
-  unfolding lookup pushAfter
+  unfolding listGives pushAfter
   lookup-after x [] a sx u = go (is (joins x r))
     where
       go : Is (joins x r) → lookup (pushAfter x [] r) a ≡ cond (inside r a) (rangeAnswer r a) (lookup (x ∷ []) a)
@@ -106,7 +106,7 @@ module _ (backing : ℕ → Backing) (r : FlatRange) (sr : ValuedEntry backing r
 
   pub lookup-push : (l : List FlatRange) (a : ℕ) → Longest backing l → Under l (r .first .0)
       → lookup (push l r) a ≡ cond (inside r a) (rangeAnswer r a) (lookup l a)
-  unfolding lookup push
+  unfolding listGives push
   lookup-push [] a c u = refl
   lookup-push (x ∷ xs) a c u = lookup-after x xs a c u
 

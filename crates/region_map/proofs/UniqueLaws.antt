@@ -10,9 +10,10 @@ use Rattle.region_map.specs.declared.flat.Backing.{Backing}
 use lib.ListN.{length, getD}
 use Rattle.map_records.specs.View.{noRange}
 use Rattle.map_records.specs.declared.view.FlatRange.{FlatRange}
-use Rattle.region_map.specs.FlatList.{rangeAnswer, lookup, ValuedEntry, LongestFrom, Longest}
+use Rattle.region_map.specs.FlatList.{listGives, rangeAnswer, lookup, ValuedEntry, LongestFrom, Longest}
 use Rattle.map_check.proofs.Bools.{never}
-use Rattle.region_map.proofs.RangeTests.{on-joins, inside-on, inside-before, inside-beyond}
+use Rattle.region_map.proofs.RangeTests.{on-joins, inside-before}
+use Rattle.region_map.proofs.ListLaws.{here, later}
 
 offset-in : Resolved → ℕ
 offset-in Nothing = 0
@@ -35,28 +36,20 @@ module _ (backing : ℕ → Backing) where
 
   -- below the first entry a list gives nothing
   pub low : (x : FlatRange) (xs : List FlatRange) (a : ℕ) → LongestFrom backing x xs → a < x .first .0 → lookup (x ∷ xs) a ≡ Nothing
-  unfolding lookup
+  unfolding listGives
   low x [] a c h = rw (inside-before x a h)
   low x (y ∷ ys) a c h = rw (inside-before x a h) (low y ys a (c .2) (omega (arith, c .0 .order, c .1 .above)))
 
   -- up to the end of the entry before it a tail gives nothing
   tail-low : (x : FlatRange) (xs : List FlatRange) (a : ℕ) → LongestFrom backing x xs → a ≤ x .last .0 → lookup xs a ≡ Nothing
-  unfolding lookup
+  unfolding listGives
   tail-low x [] a c h = refl
   tail-low x (y ∷ ys) a c h = low y ys a (c .2) (omega (arith, c .1 .above))
-
-  pub here : (x : FlatRange) (xs : List FlatRange) (a : ℕ) → x .first .0 ≤ a → a ≤ x .last .0 → lookup (x ∷ xs) a ≡ rangeAnswer x a
-  unfolding lookup
-  here x xs a h k = rw (inside-on x a h k)
-
-  pub later : (x : FlatRange) (xs : List FlatRange) (a : ℕ) → x .last .0 < a → lookup (x ∷ xs) a ≡ lookup xs a
-  unfolding lookup
-  later x xs a h = rw (inside-beyond x a h)
 
   -- right after an entry its list does not give the same node at the next offset
   ends : (x : FlatRange) (xs : List FlatRange) → LongestFrom backing x xs
       → lookup xs (x .last .0 + 1) ≡ rangeAnswer x (x .last .0 + 1) → ⊥
-  unfolding lookup offset-in
+  unfolding listGives offset-in
   ends x [] c h = apart (sym h)
   ends x (y ∷ ys) c h = go (decLt (x .last .0 + 1) (y .first .0))
     where
@@ -68,7 +61,7 @@ module _ (backing : ℕ → Backing) where
       go (no q) =
           let n : y .first .0 ≡ x .last .0 + 1 = omega (arith, c .1 .above) in
           let e : rangeAnswer y (x .last .0 + 1) ≡ rangeAnswer x (x .last .0 + 1) =
-          sym (here y ys (x .last .0 + 1) (omega arith) (omega (arith, s .order))) ∙ h in
+          sym (here Nothing rangeAnswer y ys (x .last .0 + 1) (omega arith) (omega (arith, s .order))) ∙ h in
           let k : y .region ≡ x .region = cc in
           let o : y .offset .0 + (x .last .0 + 1 - y .first .0) ≡ x .offset .0 + (x .last .0 + 1 - x .first .0) = ap offset-in e in
           never (sym (on-joins x y (record { next = n; region = k; offset = omega (arith, c .0 .order) })) ∙ c .1 .split)
@@ -80,7 +73,7 @@ module _ (backing : ℕ → Backing) where
         go : Dec (x .first .0 ≤ y .first .0) → x .first .0 ≤ y .first .0
         go (yes q) = q
         go (no q) =
-            absurd (apart (sym (here y ys (y .first .0) (omega arith) (sound y ys d .order)) ∙ sym (h (y .first .0)) ∙ low x xs (y .first .0) c (omega arith)))
+            absurd (apart (sym (here Nothing rangeAnswer y ys (y .first .0) (omega arith) (sound y ys d .order)) ∙ sym (h (y .first .0)) ∙ low x xs (y .first .0) c (omega arith)))
 
     last-le : ((a : ℕ) → lookup (x ∷ xs) a ≡ lookup (y ∷ ys) a) → x .first .0 ≡ y .first .0 → x .region ≡ y .region → x .offset .0 ≡ y .offset .0 → y .last .0 ≤ x .last .0
     last-le h p n o = go (decLe (y .last .0) (x .last .0))
@@ -90,8 +83,8 @@ module _ (backing : ℕ → Backing) where
         go (no q) =
             let a = x .last .0 + 1 in
             let e : lookup xs (x .last .0 + 1) ≡ rangeAnswer y (x .last .0 + 1) =
-            sym (later x xs (x .last .0 + 1) (omega arith)) ∙ h (x .last .0 + 1)
-            ∙ here y ys (x .last .0 + 1) (omega (arith, sound x xs c .order)) (omega arith) in
+            sym (later Nothing rangeAnswer x xs (x .last .0 + 1) (omega arith)) ∙ h (x .last .0 + 1)
+            ∙ here Nothing rangeAnswer y ys (x .last .0 + 1) (omega (arith, sound x xs c .order)) (omega arith) in
             absurd (ends x xs c (rw (p, n, o) e))
 
   run-eq : (x y : FlatRange) → ValuedEntry backing x → ValuedEntry backing y → x .first .0 ≡ y .first .0 → x .last .0 ≡ y .last .0 → x .region ≡ y .region → x .offset .0 ≡ y .offset .0 → x ≡ y
@@ -110,7 +103,7 @@ module _ (backing : ℕ → Backing) where
       let p₂ = first-le y ys x xs d c (λ a. sym (h a)) in
       let p : x .first .0 ≡ y .first .0 = omega arith in
       let e : rangeAnswer x (x .first .0) ≡ rangeAnswer y (x .first .0) =
-      sym (here x xs (x .first .0) (omega arith) (sx .order)) ∙ h (x .first .0) ∙ here y ys (x .first .0) (omega arith) (omega (arith, sy .order)) in
+      sym (here Nothing rangeAnswer x xs (x .first .0) (omega arith) (sx .order)) ∙ h (x .first .0) ∙ here Nothing rangeAnswer y ys (x .first .0) (omega arith) (omega (arith, sy .order)) in
       let n : x .region ≡ y .region = cc in
       let o′ : x .offset .0 + (x .first .0 - x .first .0) ≡ y .offset .0 + (x .first .0 - y .first .0) = ap offset-in e in
       let o : x .offset .0 ≡ y .offset .0 = omega arith in
@@ -131,16 +124,16 @@ module _ (backing : ℕ → Backing) where
 
       go : Dec (a ≤ x .last .0) → lookup xs a ≡ lookup ys a
       go (yes q) = tail-low x xs a c q ∙ sym (tail-low y ys a d (omega (arith, l)))
-      go (no q) = sym (later x xs a (omega arith)) ∙ h a ∙ later y ys a (omega (arith, l))
+      go (no q) = sym (later Nothing rangeAnswer x xs a (omega arith)) ∙ h a ∙ later Nothing rangeAnswer y ys a (omega (arith, l))
 
   -- two lists of longest runs that give the same answers are equal
   pub unique : (l m : List FlatRange) → Longest backing l → Longest backing m → ((a : ℕ) → lookup l a ≡ lookup m a) → l ≡ m
-  unfolding lookup
+  unfolding listGives
   unique [] [] c d h = refl
   unique [] (y ∷ ys) c d h =
-      absurd (apart (sym (here y ys (y .first .0) (omega arith) (sound y ys d .order)) ∙ sym (h (y .first .0))))
+      absurd (apart (sym (here Nothing rangeAnswer y ys (y .first .0) (omega arith) (sound y ys d .order)) ∙ sym (h (y .first .0))))
   unique (x ∷ xs) [] c d h =
-      absurd (apart (sym (here x xs (x .first .0) (omega arith) (sound x xs c .order)) ∙ h (x .first .0)))
+      absurd (apart (sym (here Nothing rangeAnswer x xs (x .first .0) (omega arith) (sound x xs c .order)) ∙ h (x .first .0)))
   unique (x ∷ xs) (y ∷ ys) c d h =
       let e = heads-eq x xs y ys c d h in
       let t = unique xs ys (chain-tail x xs c) (chain-tail y ys d) (tails x xs y ys c d e h) in

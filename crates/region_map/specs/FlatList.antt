@@ -2,10 +2,11 @@
 use mathlib.Core.Path.{_≡_}
 use mathlib.Core.Bool.{Bool, false, cond, _&&_}
 use mathlib.Core.List.{List, [], _∷_}
-use Prim.Native.Nat.{ℕ, zero, suc, _+_, _-_, _≤_, _<_}
+use Prim.Native.Nat.{ℕ, zero, suc, _+_, _≤_, _<_}
 use lib.Dec.{leb, eqb}
 use Rattle.region_map.specs.declared.resolve.Resolved.{Resolved}
 use Rattle.region_map.specs.declared.resolve.Resolved.the-variants.{Nothing, At}
+use Rattle.map_records.specs.View.{offsetIn}
 use Rattle.map_records.specs.declared.view.FlatRange.{FlatRange}
 use Rattle.region_map.specs.declared.flat.Backing.{Backing}
 
@@ -45,14 +46,18 @@ flat backing f (suc n) = extend backing (flat backing f n) n n (f n)
 unfoldable pub inside : FlatRange → ℕ → Bool
 inside x a = leb (x .first .0) a && leb a (x .last .0)
 
+-- what a list gives an address: what the first range that holds it gives, and `none` where no range does
+unfoldable pub listGives : {A : Type 0} → A → (FlatRange → ℕ → A) → List FlatRange → ℕ → A
+listGives none gives [] a = none
+listGives none gives (x ∷ xs) a = cond (inside x a) (gives x a) (listGives none gives xs a)
+
 -- 'the entry's node at offset + a - first'
 abbrev pub rangeAnswer : FlatRange → ℕ → Resolved
-rangeAnswer x a = At (x .region) (record { 0 = x .offset .0 + (a - x .first .0) })
+rangeAnswer x a = At (x .region) (record { 0 = offsetIn x a })
 
 -- 'A list gives an address a in an entry (first to last) the entry's node at offset + a - first, and any other address nothing'
-unfoldable pub lookup : List FlatRange → ℕ → Resolved
-lookup [] a = Nothing
-lookup (x ∷ xs) a = cond (inside x a) (rangeAnswer x a) (lookup xs a)
+abbrev pub lookup : List FlatRange → ℕ → Resolved
+lookup = listGives Nothing rangeAnswer
 
 -- 'no empty entry', and one that 'carries these node values'
 pub record ValuedEntry (backing : ℕ → Backing) (x : FlatRange) : Type 0 where

@@ -1,17 +1,17 @@
 -- Laws of what a view gives an address and of routing over it. Assumes nothing.
 use mathlib.Core.Path.{_≡_, refl, sym, ap, _∙_, ap₂, fun-ext}
 use mathlib.Core.Bool.{Bool, true, false, cond, _&&_, _||_, not}
-use mathlib.Core.List.{List, [], _∷_}
+use mathlib.Core.List.{List}
 use mathlib.Core.Logic.{⊎-elim}
 use Prim.Native.Nat.{ℕ, zero, suc, _+_, _-_, _/_, _%_, _≤_, _<_}
 use native.Mathlib.Nat.{eq-or-lt-of-le, div-lt-iff-lt-mul, div-add-mod', mod-lt, add-mul, add-zero}
 use native.Mathlib.Omega.{arith}
 use lib.Dec.{eqb}
-use lib.ListN.{length, getD, replicate}
+use lib.ListN.{length, replicate}
 use lib.Seq.{getD-take, length-take-le}
 use borrow.Author.Tests.{eq-eqb, ne-eqb, eqb-true, not-true, not-false}
 use Rattle.map_records.specs.Map.{mmio, managed}
-use Rattle.region_map.specs.FlatList.{inside, lookup, rangeAnswer}
+use Rattle.region_map.specs.FlatList.{lookup, rangeAnswer}
 use Rattle.map_records.specs.View.{entries, noRange}
 use Rattle.map_records.specs.View.{rangeOf}
 use Rattle.map_check.specs.Reply.{plain}
@@ -21,6 +21,7 @@ use Rattle.region_map.specs.declared.resolve.Resolved.the-variants as resolved
 use Rattle.map_records.specs.declared.view.FlatRange.{FlatRange}
 use Rattle.map_records.specs.declared.view.FlatView.{FlatView}
 use Rattle.map_check.proofs.Bools.{never, and-fst, and-snd}
+use Rattle.region_map.proofs.ListLaws.{Held, held, read-off}
 use Rattle.device_words.specs.Table.{bitAt, allBelow}
 use Rattle.device_words.specs.Device.{pluggedIn}
 use Rattle.device_words.proofs.TableLaws.{all-true, all-of, all-not, zero-bit}
@@ -40,13 +41,7 @@ forget nowhere = resolved.Nothing
 forget (leaf n kind base o) = resolved.At n (record { 0 = o })
 
 pub lookup-leaf : (l : List FlatRange) (a : ℕ) → lookup l a ≡ forget (leafAt l a)
-unfolding lookup leafAt
-lookup-leaf [] a = refl
-lookup-leaf (x ∷ xs) a = go (inside x a) (lookup-leaf xs a)
-  where
-    go : (b : Bool) → lookup xs a ≡ forget (leafAt xs a) → cond b (rangeAnswer x a) (lookup xs a) ≡ forget (cond b (leafIn x a) (leafAt xs a))
-    go true e = refl
-    go false e = e
+lookup-leaf l a = read-off nowhere leafIn forget rangeAnswer l a (λ k h. refl)
 
 module _ (v : FlatView) (memory a : ℕ) where
   pub looked-record : viewOk v memory noRegionBound ≡ false → lookedUp v memory a ≡ look.refused (plain 27)
@@ -137,34 +132,23 @@ module _ (v : FlatView) (a at : ℕ) (s : Spot v a at) (h : at < v .count) where
         all-of (goesOn v a) w (λ i l. byte-in i (omega arith))
 
 -- all answers of one region have one kind
-record Answers (l : List FlatRange) (n k : ℕ) : Type 0 where
-  at : ℕ
-  below : at < length l
-  region : getD l at noRange .region ≡ n
-  kind : getD l at noRange .kind ≡ k
-
-answers-of : (l : List FlatRange) (a n k b o : ℕ) → leafAt l a ≡ leaf n k b o → Answers l n k
-unfolding leafAt
-answers-of [] a n k b o e = absurd (let z : _≡_ {A = ℕ} 0 1 = cc in omega arith)
-answers-of (x ∷ xs) a n k b o e = go (inside x a) e (answers-of xs a n k b o)
-  where
-    go : (t : Bool) → cond t (leafIn x a) (leafAt xs a) ≡ leaf n k b o → (leafAt xs a ≡ leaf n k b o → Answers xs n k) → Answers (x ∷ xs) n k
-    go true e f = record { at = 0; below = omega arith; region = cc; kind = cc }
-    go false e f = let r = f e in record { at = suc (r .at); below = omega (arith, r .below); region = r .region; kind = r .kind }
+answered-at : (l : List FlatRange) (a n k b o : ℕ) → leafAt l a ≡ leaf n k b o → Held nowhere leafIn l a
+answered-at l a n k b o e = held nowhere leafIn l a (λ q. let z : _≡_ {A = ℕ} 0 1 = cc in omega arith)
 
 module _ (v : FlatView) (full : v .count ≤ length (v .ranges)) (ordered : Ordered v) where
   pub same-kind : (x y n k b o k₂ b₂ o₂ : ℕ) → leafAt (entries v) x ≡ leaf n k b o → leafAt (entries v) y ≡ leaf n k₂ b₂ o₂ → k₂ ≡ k
   same-kind x y n k b o k₂ b₂ o₂ e f =
-      let r = answers-of (entries v) x n k b o e in
-      let t = answers-of (entries v) y n k₂ b₂ o₂ f in
+      let r = answered-at (entries v) x n k b o e in
+      let t = answered-at (entries v) y n k₂ b₂ o₂ f in
       let size = length-take-le (v .count) (v .ranges) full in
       let p : r .at < v .count = omega (arith, r .below) in
       let q : t .at < v .count = omega (arith, t .below) in
       let re = getD-take (v .count) (v .ranges) (r .at) noRange p in
       let te = getD-take (v .count) (v .ranges) (t .at) noRange q in
-      sym (t .kind) ∙ ap (λ (x : FlatRange). x .kind) te
-      ∙ ordered .kinds (t .at) (r .at) q p (ap (λ (x : FlatRange). x .region) (sym te) ∙ t .region ∙ sym (r .region) ∙ ap (λ (x : FlatRange). x .region) re)
-      ∙ ap (λ (x : FlatRange). x .kind) (sym re) ∙ r .kind
+      let here : leaf n k b o ≡ leafIn (rangeOf v (r .at)) x = sym e ∙ r .given ∙ ap (λ (z : FlatRange). leafIn z x) re in
+      let there : leaf n k₂ b₂ o₂ ≡ leafIn (rangeOf v (t .at)) y = sym f ∙ t .given ∙ ap (λ (z : FlatRange). leafIn z y) te in
+      let same : rangeOf v (t .at) .kind ≡ rangeOf v (r .at) .kind = ordered .kinds (t .at) (r .at) q p (cc) in
+      cc
 
 all-same : (f g : ℕ → Bool) (n : ℕ) → ((b : ℕ) → b < n → f b ≡ g b) → allBelow f n ≡ allBelow g n
 unfolding allBelow

@@ -10,16 +10,11 @@ use lib.Seq.{sets, sets-eq, length-sets, take-at, length-take-le, drop-drop}
 use borrow.Author.Tests.{lt-ltb, le-ltb}
 use Rattle.guest_view.specs.Guest.{byteAt, addresses, numberAt}
 use Rattle.device_words.specs.Bytes.{numberBy}
+use Rattle.guest_view.proofs.MemoryLaws.{length-addresses}
 use Rattle.virtqueue.specs.Chain.{Chain, Entry, out, here, whole, ended, element, Following, onward, astray, nextBelow, hasNext, isWritable, misplaced, visit, follow, endOf, readable, writable, total, firstBytes, descriptorAt}
 use Rattle.virtqueue.specs.Step.{requestBytes, responsePlaces}
 use Rattle.virtqueue.specs.Contracts.{Got, added, stopAt, Visits, Gathers}
 use Rattle.virtqueue.specs.declared.chain.Descriptor.{Descriptor}
-
--- stretches of addresses
-pub length-addresses : (a n : ℕ) → length (addresses a n) ≡ n
-unfolding addresses
-length-addresses a zero = refl
-length-addresses a (suc n) = ap suc (length-addresses (suc a) n)
 
 -- the front of a list into which ys was stored after its first n
 pub take-sets : (xs ys : List ℕ) (n m : ℕ) → length ys ≡ m → n + m ≤ length xs → take (n + m) (sets xs n ys) ≡ take n xs ++ ys

@@ -1,7 +1,7 @@
 -- A view that is made of an accepted map keeps 27, with a device of the map's managed region and without a device. Assumes nothing.
 use mathlib.Core.Path.{_≡_, refl, sym, ap, _∙_, subst}
 use mathlib.Core.Bool.{Bool, true, false, _||_, not, or-true}
-use mathlib.Core.List.{List, [], _∷_}
+use mathlib.Core.List.{List}
 use mathlib.Core.Logic.{⊎-elim}
 use Prim.Native.Nat.{ℕ, zero, suc, _+_, _-_, _≤_, _<_}
 use native.Mathlib.Nat.{eq-or-lt-of-le}
@@ -11,7 +11,7 @@ use lib.ListN.{length, getD, replicate, List·getD-append}
 use borrow.Author.Tests.{lt-ltb, eq-eqb, ne-eqb, eqb-true, eqb-false}
 use Rattle.map_records.specs.Map.{mmio, managed, hasMemory, region}
 use Rattle.map_check.specs.Check.{Accepted}
-use Rattle.region_map.specs.FlatList.{rangeAnswer, lookup, ValuedEntry, LongestFrom, Longest}
+use Rattle.region_map.specs.FlatList.{rangeAnswer, lookup, ValuedEntry, Longest}
 use Rattle.region_map.specs.Flatten.{backingOf, flatList, viewHolding}
 use Rattle.map_records.specs.View.{noRange}
 use Rattle.region_map.specs.ViewRules.{LawfulRange, Lawful}
@@ -22,8 +22,8 @@ use Rattle.map_records.specs.declared.view.FlatView.{FlatView}
 use Rattle.region_map.specs.declared.flat.Backing.{Backing}
 use Rattle.map_check.proofs.Accepted.{accepted-sound}
 use Rattle.region_map.proofs.LeafLaws.{root-leaf}
-use Rattle.region_map.proofs.UniqueLaws.{sound, here, later}
-use Rattle.region_map.proofs.Demand3.{list-gives, list-longest, made-lawful}
+use Rattle.region_map.proofs.UniqueLaws.{entry-at}
+use Rattle.region_map.proofs.Demand3.{list-gives, list-longest, given-at, made-lawful}
 use Rattle.memory_device.specs.SetUp.{managedIn, regionSize}
 use Rattle.device_words.specs.Device.{MemoryDevice}
 use Rattle.device_words.proofs.TableLaws.{all-of}
@@ -31,23 +31,11 @@ use Rattle.guest_view.specs.View.{kindOk, memoryOk, managedOk, pairOk, entryOk,
 use Rattle.guest_view.proofs.RuleLaws.{range-of, agree-of, pair-of, entry-of, view-of}
 
 -- a range of a list of longest runs: it carries its region's values, and the list gives its last address its last offset
-module _ (backing : ℕ → Backing) where
-  run-at : (x : FlatRange) (xs : List FlatRange) (k : ℕ) → LongestFrom backing x xs → k < length (x ∷ xs)
-      → ValuedEntry backing (getD (x ∷ xs) k noRange) × (x .first .0 ≤ getD (x ∷ xs) k noRange .last .0)
-      × (lookup (x ∷ xs) (getD (x ∷ xs) k noRange .last .0) ≡ rangeAnswer (getD (x ∷ xs) k noRange) (getD (x ∷ xs) k noRange .last .0))
-  run-at x xs zero c h = let e = sound x xs c in (e, e .order, here backing x xs (x .last .0) (e .order) (omega arith))
-  run-at x [] (suc k) c h = absurd (omega arith)
-  run-at x (y ∷ ys) (suc k) c h =
-      let q = run-at y ys k (c .2) (omega arith) in
-      let e = c .0 .order in
-      let p = c .1 .above in
-      let low = q .1 in
-      (q .0, omega arith, later backing x (y ∷ ys) (getD (y ∷ ys) k noRange .last .0) (omega arith) ∙ q .2)
-
-  run-of : (l : List FlatRange) (k : ℕ) → Longest backing l → k < length l
-      → ValuedEntry backing (getD l k noRange) × (lookup l (getD l k noRange .last .0) ≡ rangeAnswer (getD l k noRange) (getD l k noRange .last .0))
-  run-of [] k c h = absurd (omega arith)
-  run-of (x ∷ xs) k c h = let q = run-at x xs k c h in (q .0, q .2)
+run-of : (backing : ℕ → Backing) (l : List FlatRange) (k : ℕ) → Longest backing l → k < length l
+    → ValuedEntry backing (getD l k noRange) × (lookup l (getD l k noRange .last .0) ≡ rangeAnswer (getD l k noRange) (getD l k noRange .last .0))
+run-of backing l k c h =
+    let e = entry-at backing l k c h in
+    (e, given-at backing l k (getD l k noRange .last .0) c h (e .order) (omega arith))
 
 -- the managed region's size, of a map with one
 managed-size : (m : RegionMap) (c n : ℕ) → n < c → region m n .kind ≡ managed → ((i j : ℕ) → i < j → j < c → region m i .kind ≡ managed → region m j .kind ≡ managed → ⊥)
