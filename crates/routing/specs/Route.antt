@@ -55,7 +55,7 @@ abbrev pub isOpen : (ℕ → Bool) → Leaf → Bool
 isOpen plugged nowhere = true
 isOpen plugged (leaf n kind base o) = not (eqb kind managed) || plugged o
 
--- 'An access is routed whole, to memory place or port and offset'
+-- 'An access is routed whole, to memory place or port and offset': 27 lets only RAM, MMIO and managed runs pass
 abbrev pub target : Leaf → Routed
 target nowhere = refused refusal.HOLE
 target (leaf n kind base o) = cond (eqb kind mmio) (toPort base o) (toMemory (base + o))

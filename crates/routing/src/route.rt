@@ -139,6 +139,7 @@ fn route_at(
             return RouteAnswer::Refused(refusal::UNPLUGGED);
         }
     }
+    // RAM, or blocks that are plugged: 27 lets no other kind pass.
     let place = place_of(range.base, offset);
     RouteAnswer::Memory(place)
 }
