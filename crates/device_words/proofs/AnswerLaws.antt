@@ -2,9 +2,9 @@
 use mathlib.Core.Path.{_≡_, refl, sym, ap, _∙_, subst}
 use mathlib.Core.Bool.{Bool, true, false, cond, _&&_, _||_}
 use mathlib.Core.List.{List}
-use Prim.Native.Nat.{ℕ, _+_, _-_, _*_, _%_, _≤_, _<_}
+use Prim.Native.Nat.{ℕ, _+_, _-_, _*_, _/_, _%_, _≤_, _<_}
 use native.Mathlib.Omega.{arith}
-use native.Mathlib.Nat.{mul-le-mul, le-of-mul-le-mul-right, add-mul, div-mul-le-self}
+use native.Mathlib.Nat.{mul-le-mul, le-of-mul-le-mul-right, add-mul, add-zero, div-mul-le-self, div-add-mod', mul-add-mod-self-right}
 use lib.Dec.{eqb, leb}
 use lib.ListN.{length}
 use borrow.Author.Tests.{le-leb, lt-leb, leb-true, leb-false, eqb-true, eqb-false, eq-eqb, ne-eqb}
@@ -54,10 +54,23 @@ module _ (d : Sizes) (r : Request) where
   unfolding ahead
   in-past h = range-past ahead (d .addr .0) (r .addr .0) (d .«usable_size») (r .blocks * d .«block_size») h
 
-  pub in-test : d .addr .0 ≤ r .addr .0 → r .addr .0 - d .addr .0 ≤ d .«usable_size»
+  in-test : d .addr .0 ≤ r .addr .0 → r .addr .0 - d .addr .0 ≤ d .«usable_size»
       → (eqb (r .addr .0 % d .«block_size») 0 && leb 1 (r .blocks) && leb (r .blocks * d .«block_size») (d .«usable_size» - (r .addr .0 - d .addr .0))) ≡ inRange d r
   unfolding ahead
   in-test h k = range-test ahead (d .addr .0) (r .addr .0) (d .«usable_size») (r .blocks * d .«block_size») h k
+
+-- an address is aligned as its offset in an aligned region is
+offset-aligned : (b f a : ℕ) → f % b ≡ 0 → f ≤ a → eqb ((a - f) % b) 0 ≡ eqb (a % b) 0
+offset-aligned b f a whole h =
+    let e : f / b * b ≡ f = sym (add-zero (f / b * b)) ∙ ap (λ (x : ℕ). f / b * b + x) (sym whole) ∙ div-add-mod' f b in
+    let parts : f / b * b + (a - f) ≡ a = ap (λ (x : ℕ). x + (a - f)) e ∙ omega arith in
+    ap (λ (x : ℕ). eqb x 0) (sym (mul-add-mod-self-right (f / b) b (a - f)) ∙ ap (λ (x : ℕ). x % b) parts)
+
+pub in-offset : (d : Sizes) (r : Request) → Sized d → d .addr .0 ≤ r .addr .0 → r .addr .0 - d .addr .0 ≤ d .«usable_size»
+    → (eqb ((r .addr .0 - d .addr .0) % d .«block_size») 0 && leb 1 (r .blocks) && leb (r .blocks * d .«block_size») (d .«usable_size» - (r .addr .0 - d .addr .0))) ≡ inRange d r
+in-offset d r z h k =
+    ap (λ (x : Bool). x && leb 1 (r .blocks) && leb (r .blocks * d .«block_size») (d .«usable_size» - (r .addr .0 - d .addr .0))) (offset-aligned (d .«block_size») (d .addr .0) (r .addr .0) (z .aligned) h)
+    ∙ in-test d r h k
 
 -- the blocks up to the usable part's end are in the table
 pub blocks-fit : (d : Sizes) (a n : ℕ) → Sized d → a - d .addr .0 + n * d .«block_size» ≤ d .«usable_size» → blockOf d a + n ≤ 1024

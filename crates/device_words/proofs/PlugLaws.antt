@@ -1,6 +1,7 @@
 -- When a PLUG is acknowledged, as facts; a run plugged in two parts; and an UNPLUG of what was just plugged. Assumes nothing.
 use mathlib.Core.Path.{_≡_, refl, ap, _∙_, sym}
 use mathlib.Core.Bool.{Bool, true, false, cond, _&&_, not}
+use mathlib.Core.List.{List}
 use Prim.Native.Nat.{ℕ, _+_, _-_, _*_, _/_, _%_, _≤_}
 use native.Mathlib.Nat.{add-mul, mul-add, mul-comm, add-mul-div-right, add-mul-mod-self-right}
 use native.Mathlib.Omega.{arith}
@@ -9,18 +10,25 @@ use Rattle.map_check.proofs.Bools.{and-fst, and-snd}
 use Rattle.device_words.specs.Table.{IsTable, bitAt, turned, heldIn, setIn}
 use Rattle.device_words.specs.Device.{MemoryDevice, pinnedIn, isPinned, anyPinned, sizesOf, withPlugged, sizeIn, pluggedSize}
 use Rattle.device_words.specs.Contracts.{Valid}
-use Rattle.device_words.specs.Request.{plugRun, unplugRun, blockOf, inRange, alreadyPlugged, overRequested, answeredBy, answered, isAck}
+use Rattle.device_words.specs.Request.{plugType, plugRun, unplugRun, blockOf, inRange, alreadyPlugged, overRequested, answeredBy, answered, isAck}
+use Rattle.device_words.specs.declared.words.Sizes.{Sizes}
+use Rattle.device_words.specs.declared.request.Request.{Request}
 use Rattle.device_words.specs.declared.request.Response.{Response}
 use Rattle.device_words.specs.declared.request.Response.the-variants as response
 use Rattle.device_words.proofs.TableLaws.{held-none}
 use Rattle.device_words.proofs.WordLaws.{within-after, any-none}
 use Rattle.device_words.proofs.RunLaws.{turned-both, turned-back, held-both, held-turned, held-apart, set-turned}
 use Rattle.device_words.proofs.RuleLaws.{valid-sizes}
-use Rattle.device_words.proofs.AnswerLaws.{in-of, in-aligned, in-some, in-above, in-end, blocks-fit}
+use Rattle.device_words.proofs.AnswerLaws.{plug-answer, in-of, in-aligned, in-some, in-above, in-end, blocks-fit}
 
 -- the answer to a PLUG by its three checks: the range, a block already plugged, more than requested
 abbrev pub byChecks : Bool → Bool → Bool → Response
 byChecks x y z = cond x (cond y response.Error (cond z response.Nack response.Ack)) response.Error
+
+-- what is asked of a PLUG further is its answer, where its own checks are passed
+pub plug-further : (further : Request → Response) (s : Sizes) (held : Bool) (t : List ℕ) (r : Request) → r .kind ≡ plugType → inRange s r ≡ true
+    → alreadyPlugged t (blockOf s (r .addr .0)) (r .blocks) ≡ false → overRequested s t (r .blocks) ≡ false → answeredBy further s held t r ≡ further r
+plug-further further s held t r k i free asked = sym (plug-answer further s held t r k i) ∙ rw (free, asked)
 
 -- what an acknowledged PLUG of the n blocks from an address on has kept
 pub record Plugs (d : MemoryDevice) (a n : ℕ) : Type 0 where

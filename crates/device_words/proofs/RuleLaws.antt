@@ -161,4 +161,4 @@ device-valid d h =
 
 -- the sizes that carrying out a request needs are a valid record's
 pub valid-sizes : (d : MemoryDevice) → Valid d → Sized (sizesOf d)
-valid-sizes d v = record { some = omega (arith, v .least); most = v .most; room = omega (arith, v .usable, v .blocks) }
+valid-sizes d v = record { some = omega (arith, v .least); most = v .most; aligned = v .aligned; room = omega (arith, v .usable, v .blocks) }

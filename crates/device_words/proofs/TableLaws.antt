@@ -248,21 +248,18 @@ more-words P i old new b h =
     (λ ge. let e : i * 64 + (b - i * 64) ≡ b = omega arith in ap P (sym e) ∙ new (b - i * 64) (omega arith))
     (side b (i * 64))
 
-module _ (t : List ℕ) (n i : ℕ) where
-  -- block k of word i is below n, or not set
-  low-set : (k : ℕ) → i * 64 + k < n → below t n (i * 64 + k) ≡ true
-  low-set k p = ap (λ (x : Bool). not (bitAt t (i * 64 + k)) || x) (lt-ltb (i * 64 + k) n p) ∙ or-true (not (bitAt t (i * 64 + k)))
+-- a block below n is below n, or not set
+pub low-set : (t : List ℕ) (n b : ℕ) → b < n → below t n b ≡ true
+low-set t n b p = ap (λ (x : Bool). not (bitAt t b) || x) (lt-ltb b n p) ∙ or-true (not (bitAt t b))
 
+module _ (t : List ℕ) (n i : ℕ) where
   high-unset : (k : ℕ) → k < 64 → bitOf (getD t i 0) k ≡ false → below t n (i * 64 + k) ≡ true
   high-unset k p e = ap (λ (x : Bool). not x || ltb (i * 64 + k) n) (block t i k p ∙ e)
 
   -- no block of word i from n on is set, where none of its bits from j on is
   pub word-low-all : (j : ℕ) → ((k : ℕ) → n ≤ i * 64 + k → j ≤ k) → getD t i 0 / 2 ^ j ≡ 0 → (k : ℕ) → k < 64 → below t n (i * 64 + k) ≡ true
   word-low-all j g e k p =
-      ⊎-elim (λ lt. low-set k lt) (λ ge. high-unset k p (high-none (getD t i 0) j e k (g k ge))) (side (i * 64 + k) n)
-
-  pub word-below-all : i * 64 + 64 ≤ n → (k : ℕ) → k < 64 → below t n (i * 64 + k) ≡ true
-  word-below-all h k p = low-set k (omega arith)
+      ⊎-elim (λ lt. low-set t n (i * 64 + k) lt) (λ ge. high-unset k p (high-none (getD t i 0) j e k (g k ge))) (side (i * 64 + k) n)
 
   -- a block of word i from n on is set, where one of its bits from j on is
   pub word-high-not : (j : ℕ) → j ≤ 64 → ((k : ℕ) → j ≤ k → n ≤ i * 64 + k) → i < 16 → getD t i 0 < 2 ^ 64 → (getD t i 0 / 2 ^ j ≡ 0 → ⊥) → onlyBelow t n ≡ false

@@ -1,12 +1,12 @@
 -- Laws of a run of blocks by its words: the bits of a run in a word, a word with these bits set or not, and the loops over a run's words. Assumes nothing.
 use mathlib.Core.Path.{_≡_, refl, ap, _∙_, sym, subst}
-use mathlib.Core.Bool.{Bool, true, false, cond, not, _||_, or-true, or-false}
+use mathlib.Core.Bool.{Bool, true, false, cond, not, _&&_, _||_, or-true, or-false}
 use mathlib.Core.Logic.{⊎-elim}
 use mathlib.Core.List.{List}
 use Prim.Native.Nat.{ℕ, suc, zero, _+_, _-_, _*_, _/_, _%_, _^_, _≤_, _<_}
 use native.Mathlib.Nat.{mod-lt, one-mul, pow-suc, add-zero, eq-or-lt-of-le}
 use native.Mathlib.Omega.{arith}
-use lib.Dec.{ltb, eqb, lit<}
+use lib.Dec.{leb, ltb, eqb, lit<}
 use lib.Pow.{shl-exact}
 use lib.Bits.{bitOr, bitXor, or-shr, or-mod, or-lt, xor-shr, xor-mod, xor-lt}
 use lib.ListN.{getD, set, replicate, length-set}
@@ -20,7 +20,7 @@ use Rattle.map_records.proofs.Order.{side, eq-or-not}
 word-is : (w : ℕ) (f : ℕ → Bool) → w < 2 ^ 64 → ((k : ℕ) → k < 64 → bitOf w k ≡ f k) → w ≡ wordOf f 64
 word-is w f h e = word-bits w h ∙ word-ext (bitOf w) f 64 e
 
--- ---- the bits of a word whose blocks are below b
+-- ---- the bits of a word below bit b
 
 word-ones : (f : ℕ → Bool) (n : ℕ) → ((k : ℕ) → k < n → f k ≡ true) → wordOf f n + 1 ≡ 2 ^ n
 unfolding wordOf
@@ -32,20 +32,15 @@ word-ones f (suc n) h =
 pub shl-one : (k : ℕ) → k < 64 → 1 * 2 ^ k % 18446744073709551616 ≡ 2 ^ k
 shl-one k h = shl-exact 1 k 64 (lit< tt) (omega arith) ∙ one-mul (2 ^ k)
 
-module _ (start b : ℕ) where
-  pub below-none : b ≤ start → 0 ≡ wordOf (λ k. ltb (start + k) b) 64
-  unfolding wordOf
-  below-none h = sym (word-low (λ k. ltb (start + k) b) 0 64 (omega arith) (λ j p q. le-ltb (start + j) b (omega arith)))
+module _ (b : ℕ) where
+  below-ones : (n : ℕ) → n ≤ b → wordOf (λ k. ltb k b) n + 1 ≡ 2 ^ n
+  below-ones n h = word-ones (λ k. ltb k b) n (λ k p. lt-ltb k b (omega arith))
 
-  below-ones : (n : ℕ) → start + n ≤ b → wordOf (λ k. ltb (start + k) b) n + 1 ≡ 2 ^ n
-  below-ones n h = word-ones (λ k. ltb (start + k) b) n (λ k p. lt-ltb (start + k) b (omega arith))
-
-  pub below-all : start + 64 ≤ b → 18446744073709551615 ≡ wordOf (λ k. ltb (start + k) b) 64
+  pub below-all : 64 ≤ b → 18446744073709551615 ≡ wordOf (λ k. ltb k b) 64
   below-all h = omega (arith, below-ones 64 h)
 
-  pub below-some : (n : ℕ) → n ≤ 64 → start + n ≡ b → 2 ^ n - 1 ≡ wordOf (λ k. ltb (start + k) b) 64
-  below-some n h e =
-      omega (arith, below-ones n (omega arith), word-low (λ k. ltb (start + k) b) n 64 h (λ j p q. le-ltb (start + j) b (omega arith)))
+  pub below-some : b ≤ 64 → 2 ^ b - 1 ≡ wordOf (λ k. ltb k b) 64
+  below-some h = omega (arith, below-ones b (omega arith), word-low (λ k. ltb k b) b 64 h (λ j p q. le-ltb j b p))
 
 -- ---- a word with the bits of a run set or not
 
@@ -87,12 +82,37 @@ pub within-after : (from n b : ℕ) → from + n ≤ b → within from n b ≡ f
 within-after from n b p = simp (le-leb from b (omega arith), le-ltb b (from + n) p)
 
 -- below the run's end, but not below its start
-within-two : (from n b : ℕ) → cond (ltb b from) (not (ltb b (from + n))) (ltb b (from + n)) ≡ within from n b
-within-two from n b =
+from-upto : (low end k : ℕ) → low ≤ end → cond (ltb k low) (not (ltb k end)) (ltb k end) ≡ (leb low k && ltb k end)
+from-upto low end k h =
     ⊎-elim
-    (λ lt. simp (lt-ltb b from lt, lt-ltb b (from + n) (omega arith), lt-leb from b lt))
-    (λ ge. simp (le-ltb b from ge, le-leb from b ge))
-    (side b from)
+    (λ lt. simp (lt-ltb k low lt, lt-ltb k end (omega arith), lt-leb low k lt))
+    (λ ge. simp (le-ltb k low ge, le-leb low k ge))
+    (side k low)
+
+-- the bits of a run in word i, where `low` and `end` count from the word's first block
+pub run-here : (from n i low end k : ℕ) → low ≡ from - i * 64 → i * 64 + end ≡ from + n → (leb low k && ltb k end) ≡ within from n (i * 64 + k)
+run-here from n i low end k e f = rw (starts, ends)
+  where
+    starts : leb low k ≡ leb from (i * 64 + k)
+    starts =
+        ⊎-elim
+        (λ lt. lt-leb low k lt ∙ sym (lt-leb from (i * 64 + k) (omega arith)))
+        (λ ge. le-leb low k ge ∙ sym (le-leb from (i * 64 + k) (omega arith)))
+        (side k low)
+
+    ends : ltb k end ≡ ltb (i * 64 + k) (from + n)
+    ends =
+        ⊎-elim
+        (λ lt. lt-ltb k end lt ∙ sym (lt-ltb (i * 64 + k) (from + n) (omega arith)))
+        (λ ge. le-ltb k end ge ∙ sym (le-ltb (i * 64 + k) (from + n) (omega arith)))
+        (side k end)
+
+-- so a word with these bits turned is one with the run's blocks turned
+pub word-here : (from n i low end w x : ℕ) (on : Bool) → low ≡ from - i * 64 → i * 64 + end ≡ from + n → w ≡ wordOf (λ k. cond (leb low k && ltb k end) on (bitOf x k)) 64 → w ≡ wordOf (λ k. cond (within from n (i * 64 + k)) on (bitOf x k)) 64
+word-here from n i low end w x on e f p =
+    p
+    ∙ word-ext (λ k. cond (leb low k && ltb k end) on (bitOf x k)) (λ k. cond (within from n (i * 64 + k)) on (bitOf x k)) 64
+    (λ k r. ap (λ (y : Bool). cond y on (bitOf x k)) (run-here from n i low end k e f))
 
 set-bit : (x y : Bool) → (x || y) ≡ cond y true x
 set-bit true true = refl
@@ -106,31 +126,31 @@ unset-bit true false = refl
 unset-bit false true = refl
 unset-bit false false = refl
 
-module _ (start from n to before w : ℕ) (p : to ≡ wordOf (λ k. ltb (start + k) (from + n)) 64) (q : before ≡ wordOf (λ k. ltb (start + k) from) 64) (h : w < 2 ^ 64) where
-  run-bit : (k : ℕ) → k < 64 → bitOf (bitXor to before) k ≡ within from n (start + k)
+module _ (low end to before w : ℕ) (p : to ≡ wordOf (λ k. ltb k end) 64) (q : before ≡ wordOf (λ k. ltb k low) 64) (order : low ≤ end) (h : w < 2 ^ 64) where
+  run-bit : (k : ℕ) → k < 64 → bitOf (bitXor to before) k ≡ (leb low k && ltb k end)
   run-bit k r =
-      let a : bitOf to k ≡ ltb (start + k) (from + n) = ap (λ (x : ℕ). bitOf x k) p ∙ word-bit (λ j. ltb (start + j) (from + n)) 64 k r in
-      let b : bitOf before k ≡ ltb (start + k) from = ap (λ (x : ℕ). bitOf x k) q ∙ word-bit (λ j. ltb (start + j) from) 64 k r in
+      let a : bitOf to k ≡ ltb k end = ap (λ (x : ℕ). bitOf x k) p ∙ word-bit (λ j. ltb j end) 64 k r in
+      let b : bitOf before k ≡ ltb k low = ap (λ (x : ℕ). bitOf x k) q ∙ word-bit (λ j. ltb j low) 64 k r in
       xor-bit to before k ∙ ap (λ (x : Bool). cond (bitOf before k) (not x) x) a
-      ∙ ap (λ (x : Bool). cond x (not (ltb (start + k) (from + n))) (ltb (start + k) (from + n))) b ∙ within-two from n (start + k)
+      ∙ ap (λ (x : Bool). cond x (not (ltb k end)) (ltb k end)) b ∙ from-upto low end k order
 
   run-lt : bitXor to before < 2 ^ 64
   run-lt =
-      xor-lt 64 to before (subst (λ (x : ℕ). x < 2 ^ 64) (sym p) (word-lt (λ k. ltb (start + k) (from + n)) 64))
-      (subst (λ (x : ℕ). x < 2 ^ 64) (sym q) (word-lt (λ k. ltb (start + k) from) 64))
+      xor-lt 64 to before (subst (λ (x : ℕ). x < 2 ^ 64) (sym p) (word-lt (λ k. ltb k end) 64))
+      (subst (λ (x : ℕ). x < 2 ^ 64) (sym q) (word-lt (λ k. ltb k low) 64))
 
   set-lt : bitOr w (bitXor to before) < 2 ^ 64
   set-lt = or-lt 64 w (bitXor to before) h run-lt
 
-  pub run-set : bitOr w (bitXor to before) ≡ wordOf (λ k. cond (within from n (start + k)) true (bitOf w k)) 64
+  pub run-set : bitOr w (bitXor to before) ≡ wordOf (λ k. cond (leb low k && ltb k end) true (bitOf w k)) 64
   run-set =
-      word-is (bitOr w (bitXor to before)) (λ k. cond (within from n (start + k)) true (bitOf w k)) set-lt
+      word-is (bitOr w (bitXor to before)) (λ k. cond (leb low k && ltb k end) true (bitOf w k)) set-lt
       (λ k r. or-bit w (bitXor to before) k ∙ set-bit (bitOf w k) (bitOf (bitXor to before) k) ∙ ap (λ (x : Bool). cond x true (bitOf w k)) (run-bit k r))
 
-  pub run-unset : bitXor (bitOr w (bitXor to before)) (bitXor to before) ≡ wordOf (λ k. cond (within from n (start + k)) false (bitOf w k)) 64
+  pub run-unset : bitXor (bitOr w (bitXor to before)) (bitXor to before) ≡ wordOf (λ k. cond (leb low k && ltb k end) false (bitOf w k)) 64
   run-unset =
       let run = bitXor to before in
-      word-is (bitXor (bitOr w run) run) (λ k. cond (within from n (start + k)) false (bitOf w k)) (xor-lt 64 (bitOr w run) run set-lt run-lt)
+      word-is (bitXor (bitOr w run) run) (λ k. cond (leb low k && ltb k end) false (bitOf w k)) (xor-lt 64 (bitOr w run) run set-lt run-lt)
       (λ k r. xor-bit (bitOr w run) run k ∙ ap (λ (x : Bool). cond (bitOf run k) (not x) x) (or-bit w run k)
       ∙ unset-bit (bitOf w k) (bitOf run k) ∙ ap (λ (x : Bool). cond x false (bitOf w k)) (run-bit k r))
 

@@ -43,6 +43,7 @@ pub record Valid (d : MemoryDevice) : Type 0 where
 pub record Sized (s : Sizes) : Type 0 where
   pub some : 0 < s .«block_size»
   pub most : s .«block_size» ≤ 2 ^ 30
+  pub aligned : s .addr .0 % s .«block_size» ≡ 0
   pub room : s .«usable_size» ≤ mostBlocks * s .«block_size»
 
 -- the words of a valid record

@@ -44,7 +44,8 @@ pub enum Asked {
     Run(BlockNumber, usize),
 }
 
-// Is the request aligned, of a block at least, and whole in the usable part? No sum wraps.
+// Is the request aligned, of a block at least, and whole in the usable part? Since the region is aligned, its offset
+// tells whether the address is. No sum wraps.
 fn in_range(sizes: Sizes, request: Request) -> bool
     requires { ⌜ Sized sizes × (request .blocks < 65536) ⌝ }
     ensures { λ r. ⌜ r ≡ inRange sizes request ⌝ }
@@ -61,7 +62,7 @@ fn in_range(sizes: Sizes, request: Request) -> bool
     if usable < offset {
         return false;
     }
-    (address % block == 0) & (1 <= request.blocks) & (size <= usable - offset)
+    (offset % block == 0) & (1 <= request.blocks) & (size <= usable - offset)
 }
 
 // What a request asks for, judged once.

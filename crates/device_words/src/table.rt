@@ -1,10 +1,10 @@
 // A table of 1,024 blocks in sixteen lent words. A run of blocks is its first one, and how many they are.
 ghost use mathlib.Core.Path.{_≡_};
-ghost use mathlib.Core.Bool.{cond};
-ghost use Prim.Native.Nat.{_+_, _*_, _≤_, _<_};
-ghost use lib.Dec.{eqb, ltb};
+ghost use mathlib.Core.Bool.{cond, _&&_};
+ghost use Prim.Native.Nat.{_+_, _≤_};
+ghost use lib.Dec.{eqb, leb, ltb};
 ghost use lib.ListN.{length, replicate};
-ghost use Rattle.device_words.specs.Table.{bitOf, bitAt, wordOf, within, turned, heldIn, bitsIn, setIn, mostBlocks, tableLength};
+ghost use Rattle.device_words.specs.Table.{bitOf, bitAt, wordOf, turned, heldIn, bitsIn, setIn, mostBlocks, tableLength};
 ghost use Rattle.device_words.specs.Contracts.{onlyBelow, partOf};
 use crate::block::BlockNumber;
 
@@ -30,28 +30,23 @@ pub fn is_in(words: &[u64], block: BlockNumber) -> bool
     false
 }
 
-// Of the word whose first block is `start`, the bits of the blocks below b.
-fn bits_below(start: usize, b: usize) -> u64
-    ensures { λ r. ⌜ r ≡ wordOf (λ k. ltb (start + k) b) 64 ⌝ }
+// The bits of a word below bit b.
+fn bits_below(b: usize) -> u64
+    ensures { λ r. ⌜ r ≡ wordOf (λ k. ltb k b) 64 ⌝ }
 {
-    if b <= start {
-        return 0;
-    }
-    let count = (b - start) as u64;
-    if 64 <= count {
+    if 64 <= b {
         return ALL;
     }
-    (1 << count) - 1
+    (1 << (b as u64)) - 1
 }
 
-// Word i, with those of its blocks that are among the n blocks from `from` on set or not.
-fn word_with(word: u64, i: usize, from: usize, n: usize, on: bool) -> u64
-    requires { ⌜ (from + n ≤ mostBlocks) × (i < tableLength) ⌝ }
-    ensures { λ r. ⌜ r ≡ wordOf (λ k. cond (within from n (i * 64 + k)) on (bitOf word k)) 64 ⌝ }
+// A word, with its bits from `low` on and below `end` set or not.
+fn word_with(word: u64, low: usize, end: usize, on: bool) -> u64
+    requires { ⌜ low ≤ end ⌝ }
+    ensures { λ r. ⌜ r ≡ wordOf (λ k. cond (leb low k && ltb k end) on (bitOf word k)) 64 ⌝ }
 {
-    let start = i * 64;
-    let upto = bits_below(start, from + n);
-    let before = bits_below(start, from);
+    let upto = bits_below(end);
+    let before = bits_below(low);
     let run = upto ^ before;
     let set = word | run;
     if on {
@@ -60,18 +55,24 @@ fn word_with(word: u64, i: usize, from: usize, n: usize, on: bool) -> u64
     set ^ run
 }
 
-// The n blocks from `first` on are set or not, where they lie.
+// The n blocks from `first` on are set or not, where they lie. `low` and `end` count from the first block of word i.
 pub fn with_run(words: &mut [u64], first: BlockNumber, n: usize, on: bool)
     requires { ⌜ (length (now words) ≡ tableLength) × (first .0 + n ≤ mostBlocks) ⌝ }
     ensures { λ _. ⌜ now (words .exit) ≡ turned (now (words .entry)) (first .0) n on ⌝ }
 {
     let from = first.0 as usize;
-    let end = from + n;
     let mut i = from / 64;
-    while i * 64 < end {
+    let mut low = from % 64;
+    let mut end = low + n;
+    while 0 < end {
         let word = words[i];
-        let turned = word_with(word, i, from, n, on);
+        let turned = word_with(word, low, end, on);
         words[i] = turned;
+        if end <= 64 {
+            return;
+        }
+        end -= 64;
+        low = 0;
         i += 1;
     }
 }
@@ -90,14 +91,20 @@ fn run_is(words: &[u64], first: BlockNumber, n: usize, on: bool) -> bool
     ensures { λ r. ⌜ r ≡ eqb (heldIn (now (words .entry)) (first .0) n) (cond on n 0) ⌝ }
 {
     let from = first.0 as usize;
-    let end = from + n;
     let mut i = from / 64;
-    while i * 64 < end {
+    let mut low = from % 64;
+    let mut end = low + n;
+    while 0 < end {
         let word = words[i];
-        let turned = word_with(word, i, from, n, on);
+        let turned = word_with(word, low, end, on);
         if turned != word {
             return false;
         }
+        if end <= 64 {
+            return true;
+        }
+        end -= 64;
+        low = 0;
         i += 1;
     }
     true
@@ -141,24 +148,18 @@ pub fn total(words: &[u64]) -> u64
     count
 }
 
-// Is every block that is set below n?
+// Is every block that is set below n? The words before that of block n have none but such; of that word the bits from
+// n's on must be off, and of each one after it all.
 pub fn only_below(words: &[u64], n: usize) -> bool
     requires { ⌜ (length (now words) ≡ tableLength) × (n ≤ mostBlocks) ⌝ }
     ensures { λ r. ⌜ r ≡ onlyBelow (now (words .entry)) n ⌝ }
 {
-    for i in 0..TABLE_WORDS {
-        let word = words[i];
-        let start = i * 64;
-        if n <= start {
-            if word != 0 {
-                return false;
-            }
-        } else if n - start < 64 {
-            let k = (n - start) as u64;
-            if (word >> k) != 0 {
-                return false;
-            }
+    let mut low = (n % 64) as u64;
+    for i in n / 64..TABLE_WORDS {
+        if (words[i] >> low) != 0 {
+            return false;
         }
+        low = 0;
     }
     true
 }

@@ -27,15 +27,15 @@ fn backing_ok(range: FlatRange, there: u64, memory: u64, region: u64) -> bool
     ensures { λ r. ⌜ r ≡ (kindOk range && (memoryOk memory range && managedOk region range)) ⌝ }
 {
     let kind = range.kind;
-    if !has_memory(kind) {
-        return kind == MMIO;
-    }
     if kind == MANAGED {
         if region <= there {
             return false;
         }
     }
-    sum_within(range.base, there + 1, memory)
+    if has_memory(kind) {
+        return sum_within(range.base, there + 1, memory);
+    }
+    kind == MMIO
 }
 
 // One range by itself.

@@ -1,6 +1,6 @@
 -- `device_words::answer::in_range` meets its contract. Assumes nothing.
 use native.Mathlib.Omega.{arith}
-use Rattle.device_words.proofs.AnswerLaws.{in-low, in-past, in-test, size-bound}
+use Rattle.device_words.proofs.AnswerLaws.{in-low, in-past, in-offset, size-bound}
 use borrow.Author.Needs.{needs}
 use Rattle.device_words.proofs.answer.in_range.Statement.{statement}
 use Rattle.device_words.proofs.answer.in_range.Tie as tie
@@ -18,7 +18,7 @@ rem-result : tie.Need-rem-result
 rem-result c = let s = c .before .before .before in omega (arith, s .pre .0 .some)
 
 returns-3 : tie.Need-returns-3
-returns-3 c = let a = c .before .before .before .before .args in in-test (a .sizes) (a .request) (c .before .before .before .if1 .left) (c .before .if2 .left)
+returns-3 c = let s = c .before .before .before .before in in-offset (s .args .sizes) (s .args .request) (s .pre .0) (c .before .before .before .if1 .left) (c .before .if2 .left)
 
 pub in-range-spec : {M : Type 1} → statement M
 in-range-spec = tie.close (tie.spec returns mul-size returns-2 rem-result returns-3)

@@ -3,26 +3,19 @@ use mathlib.Core.Path.{ap, _∙_}
 use Prim.Native.Nat.{ℕ, _-_}
 use native.Mathlib.Omega.{arith}
 use lib.Pow.{pow-pos}
-use Rattle.device_words.proofs.WordLaws.{shl-one, below-none, below-all, below-some}
+use Rattle.device_words.proofs.WordLaws.{shl-one, below-all, below-some}
 use borrow.Author.Needs.{needs}
 use Rattle.device_words.proofs.table.bits_below.Statement.{statement}
 use Rattle.device_words.proofs.table.bits_below.Tie as tie
 
 returns : tie.Need-returns
-returns c = below-none (c .before .args .start) (c .before .args .b) (c .if1 .taken)
-
-returns-2 : tie.Need-returns-2
-returns-2 c = below-all (c .before .before .args .start) (c .before .before .args .b) (omega arith)
+returns c = below-all (c .before .args .b) (c .if1 .taken)
 
 sub-result : tie.Need-sub-result
-sub-result c =
-    let a = c .before .before .args in
-    omega (arith, shl-one (a .b - a .start) (omega arith), pow-pos (a .b - a .start))
+sub-result c = let b = c .before .args .b in omega (arith, shl-one b (omega arith), pow-pos b)
 
-returns-3 : tie.Need-returns-3
-returns-3 c =
-    let a = c .before .before .args in
-    ap (λ (x : ℕ). x - 1) (shl-one (a .b - a .start) (omega arith)) ∙ below-some (a .start) (a .b) (a .b - a .start) (omega arith) (omega arith)
+returns-2 : tie.Need-returns-2
+returns-2 c = let b = c .before .args .b in ap (λ (x : ℕ). x - 1) (shl-one b (omega arith)) ∙ below-some b (omega arith)
 
 pub bits-below-spec : {M : Type 1} → statement M
-bits-below-spec = tie.close (tie.spec returns (λ c. search needs) returns-2 (λ c. search needs) sub-result returns-3)
+bits-below-spec = tie.close (tie.spec returns (λ c. search needs) sub-result returns-2)
