@@ -247,7 +247,7 @@ fn report() {
 
     let counted = if report.counting { COUNTED } else { NOT_COUNTED };
     println!("{}\n\n{TIMES}\n\n{counted}", machine());
-    println!("\n## The bars of issue 11\n\n{}\n{}", report.bars(), report.text.trim_end());
+    println!("\n## The bars\n\n{}\n{}", report.bars(), report.text.trim_end());
 }
 
 fn main() {

@@ -7,7 +7,7 @@ use crate::stages::{self, Element, Guest, Map, PAGES_MEMORY};
 use std::hint::black_box;
 use std::rc::Rc;
 
-/// What issue 11 asks of a row.
+/// The limit that a row is to keep.
 #[derive(Clone, Copy, PartialEq)]
 pub enum Bar {
     Instructions(f64),
