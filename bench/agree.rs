@@ -1,6 +1,7 @@
 //! That the peer is fair: plain Rust with the same checks gives the library's answers, refusals too. Both get
 //! the same records and memory, of which some words and bytes are changed at random.
 use crate::library;
+use crate::model;
 use crate::plain;
 use crate::rows::{self, Accesses};
 use crate::stages::{self, Guest, PAGES_MEMORY};
@@ -93,12 +94,12 @@ pub fn routes(cases: u64) -> Numbers {
     let mut numbers = Numbers::new();
     for case in 0..cases {
         let mut s = Accesses::new([4, 16, 64][case as usize % 3]);
-        disturb(&mut random, &mut s.view, &mut s.device, &mut [0; 7]);
+        disturb(&mut random, &mut s.view, &mut s.device, &mut plain::Queue::default());
         for _ in 0..random.next(40) {
             random.change(&mut s.accesses);
         }
         if random.next(2) == 0 {
-            s.device[5 + random.next(8) as usize] = 0; // 64 blocks are not plugged
+            s.device[model::WT_DEVICE_PLUGGED + random.next(8) as usize] = 0; // 64 blocks are not plugged
         }
         let (end, at) = (s.ranges[random.next(4) as usize][1], 2 * random.next(256) as usize);
         s.accesses[at] = end - random.next(8);

@@ -148,6 +148,7 @@ pub fn route(
         }
     }
     match kind {
+        RAM => (0, [1, base + offset, 0]),
         MMIO => (0, [2, base, offset]),
         MANAGED => match device {
             Some(d) if plugged(d, offset) && plugged(d, offset + width - 1) => {
@@ -155,7 +156,7 @@ pub fn route(
             }
             _ => (26, [0; RESULT]),
         },
-        _ => (0, [1, base + offset, 0]),
+        _ => (27, [0; RESULT]),
     }
 }
 

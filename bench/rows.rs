@@ -45,7 +45,7 @@ pub const RANGES: [u64; 4] = [4, 16, 64, 256];
 pub struct Accesses {
     pub view: Vec<u64>,
     pub ranges: Vec<plain::Range>,
-    pub device: [u64; 37],
+    pub device: plain::Device,
     pub accesses: Vec<u64>,
     at: usize,
 }

@@ -23,7 +23,7 @@ pub fn pages(count: u64) -> Vec<Run> {
 pub const PAGES_MEMORY: u64 = 4 << 20;
 
 /// A device with every block plugged.
-pub fn full_device() -> [u64; 37] {
+pub fn full_device() -> plain::Device {
     let mut d = model::Device::fresh(4096, 1 << 32, 512 * 4096, 512 * 4096, 512 * 4096).unwrap();
     d.plugged[..512].fill(true);
     d.words()
@@ -50,8 +50,8 @@ pub fn accesses(runs: &[Run]) -> Vec<u64> {
 pub struct Guest {
     pub view: Vec<u64>,
     pub ranges: Vec<plain::Range>,
-    pub device: [u64; 37],
-    pub queue: [u64; 7],
+    pub device: plain::Device,
+    pub queue: plain::Queue,
     pub memory: Vec<u8>,
     available: usize, // memory place of the available ring
 }

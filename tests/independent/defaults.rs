@@ -54,10 +54,11 @@ fn child_and_inner(r: &mut Rng, i: u64, mut child: Node, cursor: &mut u64) -> (N
         }
         ALIAS => child.target = i,
         MMIO => child.port = i,
-        _ => {
+        kind if has_memory(kind) => {
             child.start = *cursor;
             *cursor += child.size;
         }
+        kind => unreachable!("no child of the table has kind {kind}"),
     }
     if inner.kind == MMIO {
         inner.port = 2 + i;
@@ -102,7 +103,8 @@ fn defaults(r: &mut Rng) -> Defaults {
         match sides[side].0 {
             ALIAS => Some((side as u64, offset)),
             CONTAINER => (offset < nodes[side].size).then_some((side as u64, offset)),
-            _ => Some((CHILDREN[side], offset)),
+            RAM | MMIO | MANAGED => Some((CHILDREN[side], offset)),
+            kind => unreachable!("no child of the table has kind {kind}"),
         }
     };
     let answer = shows.map(|side| answer_of(side).or(answer_of(1 - side)));

@@ -32,7 +32,7 @@ impl Guest {
         for (i, &byte) in bytes.iter().enumerate() {
             let a = address.wrapping_add(i as u64);
             if let Some(run) = find(&self.runs, a) {
-                if run.kind != MMIO {
+                if has_memory(run.kind) {
                     self.memory[(run.base + run.offset_at(a)) as usize] = byte;
                 }
             }
@@ -124,14 +124,14 @@ impl Guest {
 
     /// Another address (or the same) of the memory place that `address` leads to.
     pub fn alias_of(&self, r: &mut Rng, address: u64) -> Option<u64> {
-        let run = find(&self.runs, address).filter(|run| run.kind != MMIO)?;
+        let run = find(&self.runs, address).filter(|run| has_memory(run.kind))?;
         let place = run.base + run.offset_at(address);
         let address_in = |b: &Run| {
             let inside = place.checked_sub(b.base + b.offset)?;
             (inside <= b.last - b.first).then_some(b.first + inside)
         };
         let all: Vec<u64> =
-            self.runs.iter().filter(|b| b.kind != MMIO).filter_map(address_in).collect();
+            self.runs.iter().filter(|b| has_memory(b.kind)).filter_map(address_in).collect();
         (!all.is_empty()).then(|| r.pick(&all))
     }
 

@@ -13,7 +13,7 @@ impl Built {
     /// A leaf: RAM and managed nodes take the next bytes of memory, a window its port.
     fn push_leaf(&mut self, mut node: Node, port: u64) {
         match node.kind {
-            RAM | MANAGED => {
+            kind if has_memory(kind) => {
                 node.start = self.memory;
                 self.memory += node.size;
             }

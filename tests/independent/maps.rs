@@ -96,7 +96,7 @@ pub fn plain_map(r: &mut Rng) -> (Vec<Node>, u64) {
             node.offset = offset;
         }
         match node.kind {
-            RAM | MANAGED => lay_in_memory(r, node, grid.unit, &mut cursor),
+            kind if has_memory(kind) => lay_in_memory(r, node, grid.unit, &mut cursor),
             MMIO => node.port = (ports + 3 * i as u64) % PORTS,
             ALIAS => (node.target, node.alias_offset) = (target, alias_offset),
             _ => {}

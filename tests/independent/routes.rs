@@ -108,7 +108,7 @@ fn view_for(r: &mut Rng, memory_length: u64, d: &Device) -> Vec<Run> {
 
 /// The shortest memory in which all runs lie.
 fn needed_memory(runs: &[Run]) -> u64 {
-    let in_memory = runs.iter().filter(|run| run.kind != MMIO);
+    let in_memory = runs.iter().filter(|run| has_memory(run.kind));
     let ends = in_memory
         .map(|run| run.base.saturating_add(run.offset + (run.last - run.first)).saturating_add(1));
     ends.max().unwrap_or(0)

@@ -50,7 +50,7 @@ fn encode(r: &mut Rng, nodes: &[Node], odd: bool) -> Vec<u8> {
     for n in nodes {
         let mut fields = vec![n.kind, n.parent, n.offset, n.size, n.priority];
         match n.kind {
-            RAM | MANAGED => fields.push(n.start),
+            kind if has_memory(kind) => fields.push(n.start),
             MMIO => fields.push(n.port),
             ALIAS => fields.extend([n.target, n.alias_offset]),
             _ => {}

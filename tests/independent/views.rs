@@ -46,8 +46,9 @@ fn random_backing(r: &mut Rng, memory_length: u64) -> Backing {
     let base = match kind {
         MMIO if r.one_in(6) => edge(r),
         MMIO => r.below(PORTS),
-        _ if r.one_in(3) => 0,
-        _ => r.below(memory_length),
+        RAM | MANAGED if r.one_in(3) => 0,
+        RAM | MANAGED => r.below(memory_length),
+        kind => unreachable!("kind {kind} is not picked"),
     };
     (kind, base)
 }
@@ -57,7 +58,8 @@ fn usable_bytes(kind: u64, base: u64, memory_length: u64, region: u64) -> u64 {
     match kind {
         MMIO => LIMIT,
         MANAGED => (memory_length - base.min(memory_length)).min(region),
-        _ => (memory_length - base.min(memory_length)).min(LIMIT),
+        RAM => (memory_length - base.min(memory_length)).min(LIMIT),
+        kind => unreachable!("no run has kind {kind}"),
     }
 }
 

@@ -7,7 +7,7 @@ use Prim.Native.Nat.{ℕ, _+_, _-_, _^_, _≤_, _<_}
 use native.Mathlib.Nat.{add-zero}
 use native.Mathlib.Omega.{arith}
 use lib.ListN.{length}
-use Rattle.map_records.specs.Map.{mmio, hasMemory}
+use Rattle.map_records.specs.Map.{hasMemory}
 use Rattle.map_records.specs.View.{entries}
 use Rattle.map_records.specs.View.{rangeOf}
 use Rattle.map_records.specs.declared.view.FlatRange.{FlatRange}
@@ -55,15 +55,13 @@ module _ {words : List ℕ} (j : Judged words) {a at : ℕ} (s : Spot (viewOf wo
         subst (λ (r : FlatRange). offsetIn r a + (r .last .0 - a) < 2 ^ 48) (sym e) (omega (arith, j .ordered .offset at h, s .low h, s .high h))
 
     -- the memory place
-    place-fits : hasMemory (rangeOf (viewOf words) at .kind) ≡ true → placeOf (x .base) (offsetIn x a) < 2 ^ 64
-    place-fits k =
-        subst (λ (r : FlatRange). placeOf (r .base) (offsetIn r a) < 2 ^ 64) (sym e) (omega (arith, j .ordered .place at h k, s .low h, s .high h))
-
-    pub read-place : (x .kind ≡ mmio → ⊥) → placeOf (x .base) (offsetIn x a) < 2 ^ 64
-    read-place ne = place-fits (j .ordered .kind at h (λ q. ne (ap (λ (r : FlatRange). r .kind) e ∙ q)))
+    pub read-place : hasMemory (x .kind) ≡ true → placeOf (x .base) (offsetIn x a) < 2 ^ 64
+    read-place =
+        subst (λ (r : FlatRange). hasMemory (r .kind) ≡ true → placeOf (r .base) (offsetIn r a) < 2 ^ 64) (sym e)
+        (λ k. omega (arith, j .ordered .place at h k, s .low h, s .high h))
 
     pub read-room : InMemory (viewOf words) a 1 → placeOf (x .base) (offsetIn x a) < 2 ^ 64
-    read-room m = place-fits (sym (ap memoryLeaf (s .found h)) ∙ first-byte (viewOf words) a m)
+    read-room m = read-place (ap (λ (r : FlatRange). hasMemory (r .kind)) e ∙ sym (ap memoryLeaf (s .found h)) ∙ first-byte (viewOf words) a m)
 
     read-is : placeOf (x .base) (offsetIn x a) ≡ placeIn (viewOf words) a
     read-is = subst (λ (r : FlatRange). placeOf (r .base) (offsetIn r a) ≡ placeIn (viewOf words) a) (sym e) (sym (ap placeLeaf (s .found h)))

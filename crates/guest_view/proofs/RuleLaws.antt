@@ -29,10 +29,6 @@ or-off : (a b : Bool) → (a || b) ≡ true → a ≡ false → b ≡ true
 or-off true b e f = absurd (never f)
 or-off false b e f = e
 
-or-first : (a b : Bool) → (a || b) ≡ true → b ≡ false → a ≡ true
-or-first true b e f = refl
-or-first false b e f = absurd (never (sym e ∙ f))
-
 -- ---- one range
 
 pub record RangeFacts (memory region : ℕ) (r : FlatRange) : Type 0 where
@@ -169,10 +165,6 @@ module _ (v : FlatView) (memory region : ℕ) where
         (λ lt. sym (agree-kind (rangeOf v k) (rangeOf v j) (entry-agree k j (view-entry j p) lt) (sym e))) (eq-or-lt-of-le ge))
         (side j k)
 
-    view-kind : (k : ℕ) → k < v .count → (rangeOf v k .kind ≡ mmio → ⊥) → hasMemory (rangeOf v k .kind) ≡ true
-    view-kind k h ne =
-        or-first (hasMemory (rangeOf v k .kind)) (eqb (rangeOf v k .kind) mmio) (view-range k h .kind) (ne-eqb (rangeOf v k .kind) mmio ne)
-
     view-room : (k : ℕ) → k < v .count → hasMemory (rangeOf v k .kind) ≡ true → rangeOf v k .base + lastOffset (rangeOf v k) < memory
     view-room k h = range-room memory region (rangeOf v k) (view-range k h)
 
@@ -187,7 +179,6 @@ module _ (v : FlatView) (memory region : ℕ) where
       last = λ k h. view-range k h .last;
       offset = λ k h. view-range k h .offset;
       place = λ k h e. let z = view-room k h e in omega arith;
-      kind = view-kind;
       kinds = view-kinds;
     }
 

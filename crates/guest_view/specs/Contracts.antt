@@ -1,11 +1,10 @@
 -- What the functions inside the crate, and inner functions over it, promise each other. Assumes nothing: these are definitions.
 use mathlib.Core.Path.{_≡_}
-use mathlib.Core.Bool.{Bool, true, false, _||_}
+use mathlib.Core.Bool.{Bool, true, false}
 use mathlib.Core.List.{List, map}
 use Prim.Native.Nat.{ℕ, _+_, _-_, _^_, _≤_, _<_}
-use lib.Dec.{eqb}
 use lib.ListN.{length, getD}
-use Rattle.map_records.specs.Map.{ram, mmio, managed, hasMemory}
+use Rattle.map_records.specs.Map.{hasMemory}
 use Rattle.map_records.specs.View.{entries, rangeOf, lastOffset}
 use Rattle.map_records.specs.Limits.{limit, mostRegions, mostRanges, viewLength}
 use Rattle.device_words.specs.Table.{tableLength}
@@ -28,7 +27,6 @@ pub record Ordered (v : FlatView) : Type 0 where
   pub last : (k : ℕ) → k < v .count → rangeOf v k .last .0 < limit
   pub offset : (k : ℕ) → k < v .count → lastOffset (rangeOf v k) < limit
   pub place : (k : ℕ) → k < v .count → hasMemory (rangeOf v k .kind) ≡ true → rangeOf v k .base + lastOffset (rangeOf v k) < 2 ^ 64
-  pub kind : (k : ℕ) → k < v .count → (rangeOf v k .kind ≡ mmio → ⊥) → hasMemory (rangeOf v k .kind) ≡ true
   pub kinds : (j k : ℕ) → j < v .count → k < v .count → rangeOf v j .region ≡ rangeOf v k .region → rangeOf v j .kind ≡ rangeOf v k .kind
 
 -- the words of such a view

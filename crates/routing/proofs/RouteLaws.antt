@@ -10,7 +10,7 @@ use lib.Dec.{eqb}
 use lib.ListN.{length, replicate}
 use lib.Seq.{getD-take, length-take-le}
 use borrow.Author.Tests.{eq-eqb, ne-eqb, eqb-true, not-true, not-false}
-use Rattle.map_records.specs.Map.{mmio, managed}
+use Rattle.map_records.specs.Map.{ram, mmio, managed, hasMemory}
 use Rattle.region_map.specs.FlatList.{lookup, rangeAnswer}
 use Rattle.map_records.specs.View.{entries, noRange}
 use Rattle.map_records.specs.View.{rangeOf}
@@ -20,16 +20,16 @@ use Rattle.region_map.specs.declared.resolve.Resolved.{Resolved}
 use Rattle.region_map.specs.declared.resolve.Resolved.the-variants as resolved
 use Rattle.map_records.specs.declared.view.FlatRange.{FlatRange}
 use Rattle.map_records.specs.declared.view.FlatView.{FlatView}
-use Rattle.map_check.proofs.Bools.{never, and-fst, and-snd}
+use Rattle.map_check.proofs.Bools.{never, and-fst, and-snd, or-left, or-right}
 use Rattle.region_map.proofs.ListLaws.{Held, held, read-off}
 use Rattle.device_words.specs.Table.{bitAt, allBelow}
 use Rattle.device_words.specs.Device.{pluggedIn}
 use Rattle.device_words.proofs.TableLaws.{all-true, all-of, all-not, zero-bit}
 use Rattle.device_words.proofs.RuleLaws.{blocks-mono}
-use Rattle.guest_view.specs.Guest.{Leaf, nowhere, leaf, leafIn, leafAt}
+use Rattle.guest_view.specs.Guest.{Leaf, nowhere, leaf, leafIn, leafAt, placeOf}
 use Rattle.guest_view.specs.View.{viewOk, noRegionBound}
 use Rattle.routing.specs.Look.{lookedUp}
-use Rattle.routing.specs.Route.{refused, toMemory, toPort, widthOk, isNowhere, follows, isOpen, target, routed}
+use Rattle.routing.specs.Route.{Routed, refused, toMemory, toPort, widthOk, isNowhere, follows, isOpen, target, routed}
 use Rattle.guest_view.specs.Contracts.{Ordered, Spot}
 use Rattle.guest_view.proofs.FindLaws.{at-range}
 use Rattle.guest_view.proofs.ReachLaws.{same-block}
@@ -131,10 +131,11 @@ module _ (v : FlatView) (a at : ℕ) (s : Spot v a at) (h : at < v .count) where
         let high = s .high h in
         all-of (goesOn v a) w (λ i l. byte-in i (omega arith))
 
--- all answers of one region have one kind
-answered-at : (l : List FlatRange) (a n k b o : ℕ) → leafAt l a ≡ leaf n k b o → Held nowhere leafIn l a
+-- the range that answers
+pub answered-at : (l : List FlatRange) (a n k b o : ℕ) → leafAt l a ≡ leaf n k b o → Held nowhere leafIn l a
 answered-at l a n k b o e = held nowhere leafIn l a (λ q. let z : _≡_ {A = ℕ} 0 1 = cc in omega arith)
 
+-- all answers of one region have one kind
 module _ (v : FlatView) (full : v .count ≤ length (v .ranges)) (ordered : Ordered v) where
   pub same-kind : (x y n k b o k₂ b₂ o₂ : ℕ) → leafAt (entries v) x ≡ leaf n k b o → leafAt (entries v) y ≡ leaf n k₂ b₂ o₂ → k₂ ≡ k
   same-kind x y n k b o k₂ b₂ o₂ e f =
@@ -194,23 +195,37 @@ module _ (f : ℕ → Leaf) (p : ℕ → Bool) (a w : ℕ) where
             go true e = all-same (λ i. isOpen p (f (a + i))) (λ i. p (o + i)) w (λ i h. byte-open i h ∙ ap (λ (t : Bool). not t || p (o + i)) e)
             go false e = all-of (λ i. isOpen p (f (a + i))) w (λ i h. byte-open i h ∙ ap (λ (t : Bool). not t || p (o + i)) e)
 
-        routed-whole : routed f p a w ≡ cond (not (eqb kind managed) || allBelow (λ i. p (o + i)) w) (target (leaf n kind base o)) (refused 26)
+        -- 26, or where the kind leads
+        pub routed-whole : routed f p a w ≡ cond (not (eqb kind managed) || allBelow (λ i. p (o + i)) w) (target (leaf n kind base o)) (refused 26)
         unfolding routed
         routed-whole = rw (width, not-nowhere, whole, all-open) (ap (λ (x : Leaf). cond (not (eqb kind managed) || allBelow (λ i. p (o + i)) w) (target x) (refused 26)) first)
 
-        pub routed-port : kind ≡ mmio → routed f p a w ≡ toPort base o
-        routed-port e =
-            routed-whole ∙ rw (ne-eqb kind managed (λ q. let z : _≡_ {A = ℕ} 2 4 = sym e ∙ q in omega arith), eq-eqb kind mmio e)
+-- ---- a whole access, by the kind of its range
 
-        pub routed-unplugged : kind ≡ managed → allBelow (λ i. p (o + i)) w ≡ false → routed f p a w ≡ refused 26
-        routed-unplugged e g = routed-whole ∙ rw (eq-eqb kind managed e, g)
+module _ (plugged : ℕ → Bool) (x : FlatRange) (o w : ℕ) where
+  abbrev ofKind : ℕ → Routed
+  ofKind kind = cond (not (eqb kind managed) || allBelow (λ i. plugged (o + i)) w) (target (leaf (x .region) kind (x .base) o)) (refused 26)
 
-        pub routed-memory : (kind ≡ mmio → ⊥) → (kind ≡ managed → allBelow (λ i. p (o + i)) w ≡ true) → routed f p a w ≡ toMemory (base + o)
-        routed-memory ne g = routed-whole ∙ rw (ne-eqb kind mmio ne) (go (eqb kind managed) refl)
-          where
-            go : (t : Bool) → eqb kind managed ≡ t → cond (not t || allBelow (λ i. p (o + i)) w) (toMemory (base + o)) (refused 26) ≡ toMemory (base + o)
-            go true e = rw (g (eqb-true kind managed e))
-            go false e = refl
+  abbrev pub wholeAnswer : Routed
+  wholeAnswer = ofKind (x .kind)
+
+  pub whole-unplugged : x .kind ≡ managed → allBelow (λ i. plugged (o + i)) w ≡ false → refused 26 ≡ wholeAnswer
+  whole-unplugged k e = ap (λ (t : Bool). cond t (toMemory (placeOf (x .base) o)) (refused 26)) (sym e) ∙ ap ofKind (sym k)
+
+  pub whole-memory : hasMemory (x .kind) ≡ true → (x .kind ≡ managed → allBelow (λ i. plugged (o + i)) w ≡ true) → (p : ℕ) → p ≡ placeOf (x .base) o → toMemory p ≡ wholeAnswer
+  whole-memory h g p e = ap toMemory e ∙ go (eqb (x .kind) managed) refl (hasMemory (x .kind)) h
+    where
+      go : (t : Bool) → eqb (x .kind) managed ≡ t → (m : Bool) → m ≡ true
+          → toMemory (placeOf (x .base) o) ≡ cond (not t || allBelow (λ i. plugged (o + i)) w) (cond m (toMemory (placeOf (x .base) o)) (cond (eqb (x .kind) mmio) (toPort (x .base) o) (refused 27))) (refused 26)
+      go true e m f = sym (rw (g (eqb-true (x .kind) managed e), f))
+      go false e m f = sym (rw f)
+
+  pub whole-port : x .kind ≡ mmio → toPort (x .base) o ≡ wholeAnswer
+  whole-port k = ap ofKind (sym k)
+
+  pub whole-none : hasMemory (x .kind) ≡ false → (x .kind ≡ mmio → ⊥) → refused 27 ≡ wholeAnswer
+  whole-none h m =
+      sym (rw (or-right (eqb (x .kind) ram) (eqb (x .kind) managed) h, or-left (eqb (x .kind) ram) (eqb (x .kind) managed) h, ne-eqb (x .kind) mmio m))
 
 -- ---- and over a view
 
@@ -233,12 +248,5 @@ module _ (v : FlatView) (plugged : ℕ → Bool) (a w at : ℕ) (s : Spot v a at
     kinds : (i k₂ b₂ o₂ : ℕ) → leafAt (entries v) (a + i) ≡ leaf (range .region) k₂ b₂ o₂ → k₂ ≡ range .kind
     kinds i k₂ b₂ o₂ = same-kind v full ordered a (a + i) (range .region) (range .kind) (range .base) there k₂ b₂ o₂ (s .found h)
 
-    pub view-port : range .kind ≡ mmio → routed (leafAt (entries v)) plugged a w ≡ toPort (range .base) there
-    view-port = routed-port (leafAt (entries v)) plugged a w width (range .region) (range .kind) (range .base) there (s .found h) kinds whole
-
-    pub view-unplugged : range .kind ≡ managed → allBelow (λ i. plugged (there + i)) w ≡ false → routed (leafAt (entries v)) plugged a w ≡ refused 26
-    view-unplugged = routed-unplugged (leafAt (entries v)) plugged a w width (range .region) (range .kind) (range .base) there (s .found h) kinds whole
-
-    pub view-memory : (range .kind ≡ mmio → ⊥) → (range .kind ≡ managed → allBelow (λ i. plugged (there + i)) w ≡ true)
-        → routed (leafAt (entries v)) plugged a w ≡ toMemory (range .base + there)
-    view-memory = routed-memory (leafAt (entries v)) plugged a w width (range .region) (range .kind) (range .base) there (s .found h) kinds whole
+    pub view-whole : routed (leafAt (entries v)) plugged a w ≡ wholeAnswer plugged range there w
+    view-whole = routed-whole (leafAt (entries v)) plugged a w width (range .region) (range .kind) (range .base) there (s .found h) kinds whole

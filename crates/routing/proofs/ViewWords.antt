@@ -5,18 +5,17 @@ use mathlib.Core.List.{List}
 use Prim.Native.Nat.{ℕ, _+_, _-_, _≤_, _<_}
 use native.Mathlib.Omega.{arith}
 use lib.Dec.{eqb}
-use Rattle.map_records.specs.Map.{mmio, managed}
 use Rattle.map_records.specs.View.{entries}
 use Rattle.map_records.specs.View.{rangeOf}
 use Rattle.map_records.specs.declared.view.FlatRange.{FlatRange}
 use Rattle.device_words.specs.Table.{allBelow}
 use Rattle.map_records.specs.Words.{viewOf}
-use Rattle.guest_view.specs.Guest.{leafAt, placeOf}
+use Rattle.guest_view.specs.Guest.{leafAt}
 use Rattle.map_records.specs.View.{offsetIn}
 use Rattle.guest_view.specs.Contracts.{Judged, Spot}
 use Rattle.guest_view.proofs.ReadLaws.{words-full}
-use Rattle.routing.specs.Route.{refused, toMemory, toPort, widthOk, routed}
-use Rattle.routing.proofs.RouteLaws.{goesOn, byte-at, byte-in, bytes-in, view-broken, view-port, view-unplugged, view-memory}
+use Rattle.routing.specs.Route.{refused, widthOk, routed}
+use Rattle.routing.proofs.RouteLaws.{goesOn, byte-at, byte-in, bytes-in, wholeAnswer, view-broken, view-whole}
 
 module _ {words : List ℕ} (j : Judged words) {a at : ℕ} (s : Spot (viewOf words) a at) (h : at < viewOf words .count) where
   -- the first byte
@@ -41,28 +40,6 @@ module _ {words : List ℕ} (j : Judged words) {a at : ℕ} (s : Spot (viewOf wo
     pub read-broken : not r ≡ true → refused 25 ≡ routed (leafAt (entries (viewOf words))) plugged a w
     read-broken off = sym (view-broken (viewOf words) plugged a w at s h (words-full j) (j .ordered) width r told off)
 
-    module _ (on : not r ≡ false) {x : FlatRange} (e : x ≡ rangeOf (viewOf words) at) {o : ℕ} (f : o ≡ offsetIn x a) where
-      here : o ≡ offsetIn (rangeOf (viewOf words) at) a
-      here = f ∙ ap (λ (y : FlatRange). offsetIn y a) e
-
-      kind-is : x .kind ≡ rangeOf (viewOf words) at .kind
-      kind-is = ap (λ (y : FlatRange). y .kind) e
-
-      base-is : x .base ≡ rangeOf (viewOf words) at .base
-      base-is = ap (λ (y : FlatRange). y .base) e
-
-      pub read-port : x .kind ≡ mmio → toPort (x .base) o ≡ routed (leafAt (entries (viewOf words))) plugged a w
-      read-port k =
-          rw (here, base-is) (sym (view-port (viewOf words) plugged a w at s h (words-full j) (j .ordered) width r told on (sym kind-is ∙ k)))
-
-      pub read-unplugged : x .kind ≡ managed → allBelow (λ i. plugged (o + i)) w ≡ false → refused 26 ≡ routed (leafAt (entries (viewOf words))) plugged a w
-      read-unplugged k p =
-          sym (view-unplugged (viewOf words) plugged a w at s h (words-full j) (j .ordered) width r told on (sym kind-is ∙ k)
-          (subst (λ (n : ℕ). allBelow (λ i. plugged (n + i)) w ≡ false) here p))
-
-      pub read-memory : (p : ℕ) → p ≡ placeOf (x .base) o → (x .kind ≡ mmio → ⊥) → (x .kind ≡ managed → allBelow (λ i. plugged (o + i)) w ≡ true)
-          → toMemory p ≡ routed (leafAt (entries (viewOf words))) plugged a w
-      read-memory p g ne q =
-          rw (g, here, base-is)
-          (sym (view-memory (viewOf words) plugged a w at s h (words-full j) (j .ordered) width r told on (λ k. ne (kind-is ∙ k))
-          (λ k. subst (λ (n : ℕ). allBelow (λ i. plugged (n + i)) w ≡ true) here (q (kind-is ∙ k)))))
+    pub read-whole : not r ≡ false → {x : FlatRange} → x ≡ rangeOf (viewOf words) at → {o : ℕ} → o ≡ offsetIn x a
+        → wholeAnswer plugged x o w ≡ routed (leafAt (entries (viewOf words))) plugged a w
+    read-whole on e f = rw (f, e) (sym (view-whole (viewOf words) plugged a w at s h (words-full j) (j .ordered) width r told on))

@@ -5,14 +5,14 @@ use mathlib.Core.Path.{_≡_}
 use Prim.Native.Nat.{ℕ, zero, suc, _+_, _*_, _/_, _%_}
 use lib.Dec.{eqb}
 use lib.ListN.{length, getD}
-use Rattle.map_records.specs.Map.{mmio, managed}
+use Rattle.map_records.specs.Map.{mmio, managed, hasMemory}
 use Rattle.map_records.specs.View.{entries}
 use Rattle.map_check.specs.Reply.{Reply, accepted, plain}
 use Rattle.map_records.specs.Refusal as refusal
 use Rattle.map_records.specs.declared.view.FlatView.{FlatView}
 use Rattle.device_words.specs.Table.{allBelow}
 use Rattle.device_words.specs.Device.{MemoryDevice, deviceOk, pluggedAt}
-use Rattle.guest_view.specs.Guest.{Leaf, nowhere, leaf, leafAt}
+use Rattle.guest_view.specs.Guest.{Leaf, nowhere, leaf, leafAt, placeOf}
 use Rattle.guest_view.specs.View.{viewOk, noRegionBound}
 use Rattle.routing.specs.declared.route.RouteAnswer.{RouteAnswer}
 use Rattle.routing.specs.declared.route.RouteAnswer.the-variants as answer
@@ -55,10 +55,11 @@ abbrev pub isOpen : (ℕ → Bool) → Leaf → Bool
 isOpen plugged nowhere = true
 isOpen plugged (leaf n kind base o) = not (eqb kind managed) || plugged o
 
--- 'An access is routed whole, to memory place or port and offset': 27 lets only RAM, MMIO and managed runs pass
+-- 'An access is routed whole, to memory place or port and offset', by its node's kind. No other kind answers: 27 has refused a list with one ('a kind not 1, 2 or 4')
 abbrev pub target : Leaf → Routed
 target nowhere = refused refusal.HOLE
-target (leaf n kind base o) = cond (eqb kind mmio) (toPort base o) (toMemory (base + o))
+target (leaf n kind base o) =
+    cond (hasMemory kind) (toMemory (placeOf base o)) (cond (eqb kind mmio) (toPort base o) (refused refusal.RECORD))
 
 -- 'or refused by the first of 23 to 26 that holds'
 unfoldable pub routed : (ℕ → Leaf) → (ℕ → Bool) → ℕ → ℕ → Routed

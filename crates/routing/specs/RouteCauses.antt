@@ -1,9 +1,12 @@
--- The causes of 23 to 26, number by number, for demand 2: 'each number has its exact cause'. Assumes nothing: these are definitions.
+-- The causes of 23 to 27, number by number, for demand 2: 'each number has its exact cause'. Assumes nothing: these are definitions.
 use mathlib.Core.Bool.{Bool, false, _&&_, not}
 use Prim.Native.Nat.{ℕ, _+_}
 use lib.Dec.{eqb}
+use Rattle.map_records.specs.declared.view.FlatView.{FlatView}
 use Rattle.device_words.specs.Table.{allBelow}
+use Rattle.device_words.specs.Device.{MemoryDevice, deviceOk}
 use Rattle.guest_view.specs.Guest.{Leaf}
+use Rattle.guest_view.specs.View.{viewOk, noRegionBound}
 use Rattle.routing.specs.Route.{Routed, refused, toMemory, toPort, widthOk, isNowhere, follows, isOpen}
 
 -- an answer is the refusal with this number
@@ -27,3 +30,10 @@ module _ (answers : ℕ → Leaf) (plugged : ℕ → Bool) (a w : ℕ) where
   cause26 =
       widthOk w && not (isNowhere (answers a)) && allBelow (λ i. follows (answers a) i (answers (a + i))) w
       && not (allBelow (λ i. isOpen plugged (answers (a + i))) w)
+
+-- 27: 'a given run list, device or queue record breaks its own rules'; given no device, the run list alone
+abbrev pub cause27 : FlatView → ℕ → MemoryDevice → Bool
+cause27 v memory d = not (viewOk v memory (d .«region_size») && deviceOk d)
+
+abbrev pub cause27Without : FlatView → ℕ → Bool
+cause27Without v memory = not (viewOk v memory noRegionBound)

@@ -30,6 +30,7 @@ use map_records::map::GuestAddress;
 use map_records::map::MANAGED;
 use map_records::map::MMIO;
 use map_records::map::RegionOffset;
+use map_records::map::has_memory;
 use map_records::refusal;
 use map_records::words::count_of;
 use map_records::words::range_at;
@@ -131,17 +132,20 @@ fn route_at(
     }
     let range = range_at(view, at);
     let offset = offset_in(range, a);
-    if range.kind == MMIO {
-        return RouteAnswer::Port(range.base, offset);
-    }
     if range.kind == MANAGED {
         if !blocks_plugged(block, plugged, offset, w) {
             return RouteAnswer::Refused(refusal::UNPLUGGED);
         }
     }
-    // RAM, or blocks that are plugged: 27 lets no other kind pass.
-    let place = place_of(range.base, offset);
-    RouteAnswer::Memory(place)
+    if has_memory(range.kind) {
+        let place = place_of(range.base, offset);
+        return RouteAnswer::Memory(place);
+    }
+    if range.kind == MMIO {
+        return RouteAnswer::Port(range.base, offset);
+    }
+    // 27 has refused a view with any other kind.
+    RouteAnswer::Refused(refusal::RECORD)
 }
 
 // One access over a view that was judged.

@@ -9,6 +9,11 @@ pub const ALIAS: u64 = 3;
 pub const MANAGED: u64 = 4;
 pub const LAST_KIND: u64 = MANAGED;
 
+/// Whether the bytes of a node of this kind lie in guest memory.
+pub fn has_memory(kind: u64) -> bool {
+    kind == RAM || kind == MANAGED
+}
+
 /// "Priority field or port over 255" is refused.
 pub const MOST_FIELD: u64 = 255;
 /// "Field f from 1 to 255 means f - 128."
@@ -56,10 +61,6 @@ impl Node {
             alias_offset: w[8],
         }
     }
-
-    fn has_memory(&self) -> bool {
-        self.kind == RAM || self.kind == MANAGED
-    }
 }
 
 /// The words of a map; regions past the count are zeros.
@@ -100,9 +101,9 @@ pub fn check_nodes(nodes: &[Node], memory_length: u64) -> Result<(), Refusal> {
     single(FIELD, nodes, |_, n| bad_field(n))?;
     single(LINK, nodes, |i, n| bad_link(nodes, i, n))?;
     // "In 8, ends past the memory come before pairs."
-    single(MEMORY, nodes, |_, n| n.has_memory() && n.start + n.size > memory_length)?;
+    single(MEMORY, nodes, |_, n| has_memory(n.kind) && n.start + n.size > memory_length)?;
     pair(MEMORY, nodes, |a, b| {
-        a.has_memory() && b.has_memory() && share(a.start, a.size, b.start, b.size)
+        has_memory(a.kind) && has_memory(b.kind) && share(a.start, a.size, b.start, b.size)
     })?;
     pair(MANAGED_TWICE, nodes, |a, b| a.kind == MANAGED && b.kind == MANAGED)?;
     pair(PORT, nodes, |a, b| a.kind == MMIO && b.kind == MMIO && a.port == b.port)?;
@@ -138,10 +139,11 @@ fn pair(number: u64, nodes: &[Node], clash: impl Fn(&Node, &Node) -> bool) -> Re
 /// 6: a field out of its bounds, or a field that the kind lacks and that is not 0.
 fn bad_field(n: &Node) -> bool {
     let lacking: &[u64] = match n.kind {
-        RAM | MANAGED => &[n.port, n.target, n.alias_offset],
+        CONTAINER => &[n.start, n.port, n.target, n.alias_offset],
         MMIO => &[n.start, n.target, n.alias_offset],
         ALIAS => &[n.start, n.port],
-        _ => &[n.start, n.port, n.target, n.alias_offset],
+        kind if has_memory(kind) => &[n.port, n.target, n.alias_offset],
+        kind => unreachable!("4 refuses kind {kind} before 6"),
     };
     n.offset > LIMIT
         || n.alias_offset > LIMIT

@@ -41,6 +41,7 @@ pub fn route(
     }
     Ok(match run.kind {
         MMIO => Route::Port(run.base, offset),
-        _ => Route::Memory(run.base + offset),
+        kind if has_memory(kind) => Route::Memory(run.base + offset),
+        kind => unreachable!("27 refuses a run of kind {kind}"),
     })
 }

@@ -58,7 +58,7 @@ impl Sheet<'_> {
         node.size = self.number()?;
         node.priority = self.number()?;
         match node.kind {
-            RAM | MANAGED => node.start = self.number()?,
+            kind if has_memory(kind) => node.start = self.number()?,
             MMIO => node.port = self.number()?,
             ALIAS => {
                 node.target = self.number()?;

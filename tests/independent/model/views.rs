@@ -57,7 +57,7 @@ pub fn check_view(view: &[u64], memory_length: u64, region: Option<u64>) -> Opti
 
 /// What 27 asks of one run.
 fn run_ok(r: &Run, memory_length: u64, region: Option<u64>) -> bool {
-    if r.kind != RAM && r.kind != MMIO && r.kind != MANAGED {
+    if !has_memory(r.kind) && r.kind != MMIO {
         return false;
     }
     if r.node >= MOST_NODES || r.first > r.last || r.last >= LIMIT {
@@ -67,7 +67,7 @@ fn run_ok(r: &Run, memory_length: u64, region: Option<u64>) -> bool {
     if offset_at_last >= u128::from(LIMIT) {
         return false;
     }
-    if r.kind != MMIO && u128::from(r.base) + offset_at_last >= u128::from(memory_length) {
+    if has_memory(r.kind) && u128::from(r.base) + offset_at_last >= u128::from(memory_length) {
         return false;
     }
     match (r.kind, region) {

@@ -70,7 +70,11 @@ impl Tree {
                 }
             }
             let n = &self.nodes[node as usize];
-            let base = if n.kind == MMIO { n.port } else { n.start };
+            let base = match n.kind {
+                MMIO => n.port,
+                kind if has_memory(kind) => n.start,
+                kind => unreachable!("no address leads to a node of kind {kind}"),
+            };
             runs.push(Run { first, last, node, offset, kind: n.kind, base });
         }
         runs
