@@ -8,7 +8,7 @@ use lib.ListN.{length}
 use Rattle.map_records.specs.Limits.{limit}
 use Rattle.device_words.specs.Table.{mostBlocks, bitAt, only, implies}
 use Rattle.device_words.specs.Bytes.{responseBytes}
-use Rattle.device_words.specs.Device.{MemoryDevice, isPinned, sizesOf, withPins, withPin}
+use Rattle.device_words.specs.Device.{MemoryDevice, smallestBlock, largestBlock, isPinned, sizesOf, withPins, withPin}
 use Rattle.device_words.specs.Request.{requestOf, unplugType, unplugAllType, stateType, inRange, askedFrom, askedCount, typeOf, stateOf, nothingFurther, answeredBy, tableBy, carriedOut}
 use Rattle.device_words.specs.Words.{deviceAt, deviceOf, deviceWords, deviceLength}
 use Rattle.device_words.specs.declared.words.Sizes.{Sizes}
@@ -25,8 +25,8 @@ partOf t whole = implies (bitAt t) (bitAt whole)
 
 -- what a valid record is to those who use it
 pub record Valid (d : MemoryDevice) : Type 0 where
-  pub least : 4096 ≤ d .«block_size»
-  pub most : d .«block_size» ≤ 2 ^ 30
+  pub least : smallestBlock ≤ d .«block_size»
+  pub most : d .«block_size» ≤ largestBlock
   pub some : 0 < d .«region_size»
   pub region : d .«region_size» % d .«block_size» ≡ 0
   pub blocks : d .«region_size» ≤ mostBlocks * d .«block_size»
@@ -42,7 +42,7 @@ pub record Valid (d : MemoryDevice) : Type 0 where
 -- what carrying out a request needs of the sizes
 pub record Sized (s : Sizes) : Type 0 where
   pub some : 0 < s .«block_size»
-  pub most : s .«block_size» ≤ 2 ^ 30
+  pub most : s .«block_size» ≤ largestBlock
   pub aligned : s .addr .0 % s .«block_size» ≡ 0
   pub room : s .«usable_size» ≤ mostBlocks * s .«block_size»
 

@@ -41,9 +41,19 @@ unfoldable pub powerBelow : ℕ → ℕ → Bool
 powerBelow b zero = false
 powerBelow b (suc n) = powerBelow b n || eqb b (2 ^ (12 + n))
 
+-- the ends of 'a power of two, 4,096 to 2^30', and how many such numbers there are
+abbrev pub smallestBlock : ℕ
+smallestBlock = 4096
+
+abbrev pub largestBlock : ℕ
+largestBlock = 2 ^ 30
+
+abbrev pub blockSizes : ℕ
+blockSizes = 19
+
 -- 'Block size a power of two, 4,096 to 2^30'
 abbrev pub blockOk : ℕ → Bool
-blockOk b = powerBelow b 19
+blockOk b = powerBelow b blockSizes
 
 -- 'region = managed node's size, a multiple, at most 1,024 blocks': a region's size is never 0
 abbrev pub regionOk : ℕ → ℕ → Bool

@@ -1,9 +1,9 @@
 // The plugged blocks of a device: how many a size has, whether one is plugged, and the plugged size.
 ghost use mathlib.Core.Path.{_≡_};
-ghost use Prim.Native.Nat.{_/_, _≤_, _<_};
+ghost use Prim.Native.Nat.{_*_, _/_, _≤_, _<_};
 ghost use lib.ListN.{length};
-ghost use Rattle.device_words.specs.Table.{bitAt, tableLength};
-ghost use Rattle.device_words.specs.Device.{sizeIn};
+ghost use Rattle.device_words.specs.Table.{bitAt, mostBlocks, tableLength};
+ghost use Rattle.device_words.specs.Device.{largestBlock, sizeIn};
 ghost use Rattle.device_words.specs.Words.{deviceAt, deviceLength};
 use crate::block::BlockNumber;
 use crate::table::is_in;
@@ -30,8 +30,8 @@ pub fn is_plugged(device: &[u64], b: BlockNumber) -> bool
 
 // Block size times the blocks plugged.
 pub fn plugged_size(block: u64, plugged: &[u64]) -> u64
-    requires { ⌜ (block ≤ 1073741824) × (length (now plugged) ≡ tableLength) ⌝ }
-    ensures { λ r. ⌜ (r ≡ sizeIn block (now (plugged .entry))) × (r ≤ 1099511627776) ⌝ }
+    requires { ⌜ (block ≤ largestBlock) × (length (now plugged) ≡ tableLength) ⌝ }
+    ensures { λ r. ⌜ (r ≡ sizeIn block (now (plugged .entry))) × (r ≤ largestBlock * mostBlocks) ⌝ }
 {
     let count = total(plugged);
     block * count

@@ -3,7 +3,7 @@ ghost use mathlib.Core.Path.{_≡_};
 ghost use Prim.Native.Nat.{_≤_, _<_};
 ghost use mathlib.Core.Bool.{true, _&&_};
 ghost use lib.ListN.{length};
-ghost use Rattle.device_words.specs.Device.{blockOk, regionOk, addrOk, sizesOk, setupOk, setupKept, tablesOk, deviceOk};
+ghost use Rattle.device_words.specs.Device.{largestBlock, blockOk, regionOk, addrOk, sizesOk, setupOk, setupKept, tablesOk, deviceOk};
 ghost use Rattle.device_words.specs.Words.{isDevice, deviceAt, deviceOf, deviceLength};
 use crate::pins::pins_plugged;
 use crate::plugs::blocks_in;
@@ -21,12 +21,17 @@ use map_records::map::GuestAddress;
 use map_records::numbers::LIMIT;
 use map_records::numbers::sum_within;
 
+const SMALLEST_BLOCK: u64 = 4096;
+
+// The powers of two from that to 2^30.
+const BLOCK_SIZES: usize = 19;
+
 // Is the block size a power of two from 4,096 to 2^30?
 fn block_ok(block: u64) -> bool
     ensures { λ r. ⌜ r ≡ blockOk block ⌝ }
 {
-    let mut power: u64 = 4096;
-    for k in 0..19usize {
+    let mut power = SMALLEST_BLOCK;
+    for k in 0..BLOCK_SIZES {
         if block == power {
             return true;
         }
@@ -36,7 +41,7 @@ fn block_ok(block: u64) -> bool
 }
 
 fn region_ok(block: u64, region: u64) -> bool
-    requires { ⌜ (0 < block) × (block ≤ 1073741824) ⌝ }
+    requires { ⌜ (0 < block) × (block ≤ largestBlock) ⌝ }
     ensures { λ r. ⌜ r ≡ regionOk block region ⌝ }
 {
     !(region == 0) & (region % block == 0) & (region <= (BLOCKS as u64) * block)

@@ -1,4 +1,4 @@
--- A table of pieces searched by halving, how far an address is free, and a window put behind a table from its first address up: what the table shows as the address goes up. Assumes nothing.
+-- A table of pieces searched by halving, how far an address is free, and a span put behind a table from its first address up: what the table shows as the address goes up. Assumes nothing.
 use mathlib.Core.Path.{_≡_, refl, sym, ap, ap₂, _∙_}
 use mathlib.Core.Bool.{Bool, true, _&&_}
 use mathlib.Core.List.{List}
@@ -138,7 +138,7 @@ given-same v w h (suc k) x =
     ap₂ orElse (given-same v w h k x)
     (rw (h (3 + 4 * k) (omega arith), h (3 + 4 * k + 1) (omega arith), h (3 + 4 * k + 2) (omega arith), h (3 + 4 * k + 3) (omega arith)))
 
--- w is u with a window put behind it at the addresses below a, which has the place i
+-- w is u with a span put behind it at the addresses below a, which has the place i
 pub record Filled (u : List ℕ) (region first offset end : ℕ) (w : List ℕ) (a i : ℕ) : Type 0 where
   pub kept : Pieces w
   pub start : startOf w ≡ startOf u

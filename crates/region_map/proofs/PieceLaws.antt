@@ -160,11 +160,11 @@ pub record Same (v : List ℕ) (j : ℕ) (w : List ℕ) (k : ℕ) : Type 0 where
   pub region : pieceRegion v j ≡ pieceRegion w k
   pub offset : pieceOffset v j ≡ pieceOffset w k
 
-window-eq : {r r′ f f′ o o′ e e′ : ℕ} (a : ℕ) → r ≡ r′ → f ≡ f′ → o ≡ o′ → e ≡ e′ → inSpan (itself r) f o e a ≡ inSpan (itself r′) f′ o′ e′ a
-window-eq a p q s t = λ i. inSpan (itself (p i)) (q i) (s i) (t i) a
+span-eq : {r r′ f f′ o o′ e e′ : ℕ} (a : ℕ) → r ≡ r′ → f ≡ f′ → o ≡ o′ → e ≡ e′ → inSpan (itself r) f o e a ≡ inSpan (itself r′) f′ o′ e′ a
+span-eq a p q s t = λ i. inSpan (itself (p i)) (q i) (s i) (t i) a
 
 same-gives : {v w : List ℕ} {j k : ℕ} (a : ℕ) → Same v j w k → pieceGives v j a ≡ pieceGives w k a
-same-gives a s = window-eq a (s .region) (s .first) (s .offset) (s .end)
+same-gives a s = span-eq a (s .region) (s .first) (s .offset) (s .end)
 
 -- two answers of which one is nothing may change places
 swap : (g x p : Resolved) → (x ≡ Nothing) ⊎ (p ≡ Nothing) → orElse (orElse g p) x ≡ orElse (orElse g x) p
@@ -344,7 +344,7 @@ module _ (w : List ℕ) (i m h : ℕ) (p : Piece) (v : List ℕ) (t : Pieces w) 
       (subst (λ (y : ℕ). given v (suc y) a ≡ orElse (given w y a) x) e
       (given-past v w i a x
       (given-same v w a i (λ j l. same-gives a (d .low j l)))
-      (window-eq a (d .region) (d .first) (d .offset) (d .end))
+      (span-eq a (d .region) (d .first) (d .offset) (d .end))
       (m - i)
       (λ j g l. same-gives a (d .up j g (omega arith)))
       (λ j g l. ⊎-elim

@@ -1,4 +1,4 @@
--- Laws of the table of pieces: a window, what is put behind a table, what the tree puts there, and the flat list that the pieces give. Assumes nothing.
+-- Laws of the table of pieces: a span, what is put behind a table, what the tree puts there, and the flat list that the pieces give. Assumes nothing.
 use mathlib.Core.Path.{_≡_, refl, sym, ap, subst, _∙_}
 use mathlib.Core.Bool.{Bool, true, false, _||_}
 use mathlib.Core.List.{List}
@@ -34,7 +34,7 @@ orElse-assoc : (x y z : Resolved) → orElse (orElse x y) z ≡ orElse x (orElse
 orElse-assoc Nothing y z = refl
 orElse-assoc (At n o) y z = refl
 
--- A window.
+-- A span.
 
 module _ (f : ℕ → Resolved) (first offset end a : ℕ) where
   -- by cases
@@ -163,7 +163,7 @@ module _ (m : RegionMap) (n b r first offset end : ℕ) (next : NextChild m n b 
   child-then ne d g = behind-ext (λ a. span-ext (triedIn m n b) _ (tried-next m (walkBelow priorityOf m n) n b r next ne) first offset end a
       ∙ span-orElse (answerIn m n (r - 1)) (triedIn m n (r - 1)) first offset end a) (behind-then d g)
 
--- A child, which begins at or before the window, inside it, or not before its end.
+-- A child, which begins at or before the span, inside it, or not before its end.
 module _ (m : RegionMap) (n k : ℕ) (x : Region) (read : x ≡ region m (k % 32)) (first offset end : ℕ) (child : ranked priorityOf m n k ≡ true) where
   from-child : (a : ℕ) → x .offset ≤ a → answerIn m n k a ≡ walk m (k % 32) (a - x .offset)
   from-child = subst (λ (y : Region). (a : ℕ) → y .offset ≤ a → answerIn m n k a ≡ walk m (k % 32) (a - y .offset)) (sym read) (child-at m n k child)

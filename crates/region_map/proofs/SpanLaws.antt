@@ -1,4 +1,4 @@
--- A window of answers, and the first of two that answers. Assumes nothing.
+-- A span of answers, and the first of two that answers. Assumes nothing.
 use mathlib.Core.Path.{_≡_, refl}
 use mathlib.Core.Bool.{Bool, true, false, cond, _&&_}
 use Prim.Native.Nat.{ℕ, _+_, _-_, _≤_, _<_}

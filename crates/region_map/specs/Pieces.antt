@@ -55,7 +55,7 @@ inSpan f first offset end a = cond (leb first a && ltb a end) (f (offset + (a - 
 abbrev pub itself : ℕ → ℕ → Resolved
 itself n o = At n (record { 0 = o })
 
--- f in a window
+-- f in a span
 abbrev pub seen : (ℕ → Resolved) → AddressSpan → ℕ → Resolved
 seen f at = inSpan f (at .first .0) (at .offset .0) (at .end .0)
 
@@ -93,7 +93,7 @@ pub record BegunTable (start end : ℕ) (w : List ℕ) : Type 0 where
   pub first : startOf w ≡ start
   pub horizon : horizonOf w ≡ end
 
--- a table and a window that can be put behind it
+-- a table and a span that can be put behind it
 pub record SpanFits (w : List ℕ) (at : AddressSpan) : Type 0 where
   pub kept : Pieces w
   pub from : startOf w ≤ at .first .0

@@ -27,6 +27,9 @@ const LAST_FIRST: usize = 1023;
 
 const PIECES: u64 = 256;
 
+// The number of the last piece of a full table.
+const LAST: usize = 255;
+
 // The addresses from first up to end, which is not one of them, lead to a region from an offset on.
 pub struct Piece {
     pub first: GuestAddress,
@@ -114,7 +117,7 @@ fn insert(table: &mut [u64], i: usize, piece: Piece)
     let count = table[COUNT];
     if count == PIECES {
         table[HORIZON] = table[LAST_FIRST];
-        shift(table, i, 255);
+        shift(table, i, LAST);
     } else {
         shift(table, i, count as usize);
         table[COUNT] = count + 1;

@@ -1,4 +1,4 @@
--- `region_map::pieces::fill` meets its contract. The loop's invariant: below the address `a`, whose place is `i`, the table shows the window behind what it showed at first. The measure is
+-- `region_map::pieces::fill` meets its contract. The loop's invariant: below the address `a`, whose place is `i`, the table shows the span behind what it showed at first. The measure is
 -- what is left up to the end. Assumes nothing.
 use mathlib.Core.Path.{sym, _∙_}
 use Prim.Native.Nat.{_-_}

@@ -62,7 +62,7 @@ render-calls t = (region-at-reads.Asked, region-at-reads.Learnt, horizon-reads.A
 abbrev children-calls : ℕ → render-children-lts.Claims
 children-calls t = (next-child-reads.Asked, next-child-reads.Learnt, region-at-reads.Asked, region-at-reads.Learnt, fill-reads.Asked, fill-reads.Learnt, render-below t, render.Post, render-children-below t, render-children.Post)
 
--- where a window and a region meet: the function's start, the region read, and what is known of both
+-- where a span and a region meet: the function's start, the region read, and what is known of both
 abbrev Meet : ℕ → Type 0
 Meet t = render-lts.Else1 (render-calls t) (render-at t) render.Post
 
