@@ -1,5 +1,5 @@
-//! That the peer is fair: plain Rust with the same checks gives the library's answers, refusals too. Both get
-//! the same records and memory, of which some words and bytes are changed at random.
+//! Checks that the peer is fair: plain Rust with the same checks gives the library's answers, including refusals.
+//! Both get the same records and memory, in which some words and bytes are changed at random.
 use crate::library;
 use crate::model;
 use crate::plain;
@@ -20,7 +20,7 @@ impl Random {
         (self.0 >> 11) % below
     }
 
-    /// A number near the one that stands there, or near a bound, or any.
+    /// A number near the old one, or near a bound, or any.
     fn word(&mut self, old: u64) -> u64 {
         match self.next(6) {
             0 => self.next(300),
@@ -38,7 +38,7 @@ impl Random {
     }
 }
 
-/// Changes a few of the words that count.
+/// Changes a few of the words that matter.
 fn disturb(random: &mut Random, view: &mut [u64], device: &mut [u64], queue: &mut [u64]) {
     let used = 1 + 6 * view[0] as usize;
     for _ in 0..random.next(2) {
@@ -111,7 +111,7 @@ pub fn routes(cases: u64) -> Numbers {
         let one = library::route(&s.view, PAGES_MEMORY, &s.device, address, width);
         assert_eq!(
             one,
-            plain::route_judged(&s.view, PAGES_MEMORY, Some(&s.device), address, width)
+            plain::route_validated(&s.view, PAGES_MEMORY, Some(&s.device), address, width)
         );
         let each = if a == 0 { ours.chunks(4).map(|x| x[0]).collect() } else { vec![a] };
         each.into_iter().for_each(|number| *numbers.entry(number).or_default() += 1);

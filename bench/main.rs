@@ -1,14 +1,14 @@
 //! The benchmark: the library beside plain Rust, in one run, as Markdown. bench/run builds and runs it.
 //!
 //!     bench                    the report
-//!     bench --only TEXT        the rows whose names have the text in them
+//!     bench --only TEXT        the rows whose names contain the text
 //!     bench --names            all names
-//!     bench --count NAME library|peer|nothing N    a row's call, N times: what valgrind counts
+//!     bench --count NAME library|peer|nothing N    a row's call, N times, for valgrind to count
 //!
-//! Peers: "same checks" judges every record on every call, as the library must (27); "trusted" is the same
-//! code on records that were judged before. Both are plain.rs, and agree.rs holds them to the library's answers.
-//! "model" is tests/independent/model, which is written to be read, not to be fast. vm_memory.rs is a
-//! program of its own, which bench/run builds where vm-memory is installed.
+//! Peers: "same checks" validates every record on every call, as the library must (27); "trusted" is the same
+//! code on records that were validated before. Both are in plain.rs. agree.rs compares "same checks" with the
+//! library. "model" is tests/independent/model, which is written to be read, not to be fast. vm_memory.rs is a
+//! separate program, which bench/run builds if vm-memory is installed.
 mod agree;
 mod library;
 mod measure;
@@ -40,7 +40,7 @@ fn all_rows() -> Vec<Row> {
     rows.into_iter().flat_map(|of| of()).collect()
 }
 
-/// What a command prints, where it is there and succeeds.
+/// What a command prints, if it exists and succeeds.
 fn printed(program: &str, words: &[&str]) -> Option<String> {
     let output = Command::new(program).args(words).output().ok()?;
     let text = String::from_utf8_lossy(&output.stdout).trim().to_string();
@@ -62,16 +62,16 @@ fn machine() -> String {
     )
 }
 
-// ---------------------------------------------------------------------------- vm-memory, where it was built
+// ----------------------------------------------------------------------------- vm-memory, if it was built
 
 const VM_MEMORY: &str = "
-vm-memory trusts its map: `get_slice` (lookup) and `read_obj` (lookup and read) of one access in RAM.
-Of `wt_route_all`, one access's share of a call of 256.
+vm-memory trusts its map. `get_slice` (lookup) and `read_obj` (lookup and read) are for one access in RAM.
+`wt_route_all` is a call of 256 accesses, divided by 256.
 
 | ranges | wt_route_all | get_slice | read_obj | ratio to read_obj | instructions | get_slice | read_obj | ratio |
 |---|---|---|---|---|---|---|---|---|";
 
-/// `wt_route_all` beside vm-memory, whose program bench/run puts beside this one.
+/// `wt_route_all` compared with vm-memory, whose program bench/run puts in the same folder as this one.
 fn vm_memory(report: &mut Report, routed: &[Measured]) {
     report.say("\n## Many accesses beside vm-memory");
     let program = std::env::current_exe().unwrap().with_file_name("vm_memory_peer");
@@ -104,7 +104,7 @@ fn vm_memory(report: &mut Report, routed: &[Measured]) {
     }
 }
 
-/// The stack of each call, by tests/stack.
+/// The stack of each call, measured by tests/stack.
 fn stack(report: &mut Report) {
     report.say("\n## The stack of a call\n");
     let Some(text) = printed("tests/stack/run", &[]) else {
@@ -126,7 +126,7 @@ fn stack(report: &mut Report) {
     report.bar("the stack of any call", "32 KB", measured, Some(worst.0 <= 32 << 10));
 }
 
-/// Holds the peer to the library's answers.
+/// Checks that the peer gives the library's answers.
 fn fairness(report: &mut Report) {
     let list = |numbers: agree::Numbers| {
         let cases: Vec<String> = numbers.iter().map(|(n, times)| format!("{n}: {times}")).collect();
@@ -134,8 +134,8 @@ fn fairness(report: &mut Report) {
     };
     let (routes, steps) = (list(agree::routes(2000)), list(agree::steps(1000)));
     report.say(&format!(
-        "Plain Rust with the same checks gave the library's answers, and left the same records and memory,\n\
-         on these cases (number: how often; 0 is no refusal): accesses {routes}; steps and runs {steps}."
+        "Plain Rust with the same checks gave the same answers as the library, and left the same records and\n\
+         memory, in these cases (number: how often; 0 is no refusal): accesses {routes}; steps and runs {steps}."
     ));
 }
 
@@ -158,64 +158,66 @@ fn longest_run(report: &mut Report) {
 const MAPS: &str = "
 ## Maps
 
-The peer is the model's check, walk and renderer (the way of QEMU). The walk is of address 0; both judge the map first.
+The peer is the model's check, walk and renderer (which works as QEMU's does). The walk is of address 0. Both sides
+validate the map first.
 ";
 
 const ONE_ACCESS: &str = "
 ## One access
 
-Every access succeeds; ranges and widths at random. `wt_route` judges view and device on each call.
+Every access succeeds; ranges and widths are random. `wt_route` validates view and device on each call.
 ";
 
 const MANY_ACCESSES: &str = "
 ## Many accesses
 
-`wt_route_all` judges once for 256 accesses, of which one's share is given.
+`wt_route_all` validates view and device once for 256 accesses. The figures are those of a call, divided by 256.
 ";
 
 const ONE_STEP: &str = "
 ## One step
 
-`wt_step` judges all records on each call. The chain has two elements. The queue (256 entries) lies in the last of the
-ranges; on the small host it lies in the first.
+`wt_step` validates all records on each call. The chain has two buffers (called elements in the names of rows). The
+queue (256 entries) is in the last range; on the small host it is in the first.
 ";
 
 const RUN: &str = "
 ## A step in a run of 256
 
-`wt_run` judges once; a step's share is given.
+`wt_run` validates the records once. The figures are those of a call, divided by 256.
 ";
 
 const LENGTHS: &str = "
-## A step by the length of its element
+## A step by the length of its buffer
 ";
 
 const LONGEST: &str = "
 ## The longest steps
 
-What a guest can make a step last: the last element has room for the response, every other goes over all ranges but the
-queue's.
+The longest steps that a guest can cause: the last buffer has room for the response, and every other buffer covers all
+ranges except the queue's.
 ";
 
 const TOWERS: &str = "
 ## The worst maps
 
-Towers of aliases over each other (the number of ways through the tree is ways^levels), with nothing at the bottom, with
-a byte at each end of it, or with RAM. Best of seven calls, fewer where they take over a second together.
+Towers of containers. Each level shows the level below it several times (ways), once as a child and otherwise through
+aliases that overlap, so there are ways^levels ways through the tree. At the bottom is nothing, a byte at each end, or
+RAM. Times are the best of seven calls, or of fewer if these take over a second together.
 ";
 
 const TIMES: &str =
-    "A ratio is the library's over the peer's. `same checks`: plain Rust that judges all records on each call; `trusted`: the
-same without judging them again. Times are the best of rounds that take turns.";
+    "A ratio is the library's figure divided by the peer's. `same checks`: plain Rust that validates all records on each call;
+`trusted`: the same without validating them. Times are the best of several rounds; the columns of a row take turns.";
 
 const COUNTED: &str =
-    "Instructions are counted by callgrind: a program makes the call N times, and 2 N times, and the difference is divided by
-N; what the loop around a call costs is taken off. They repeat from run to run where times do not. Callgrind counts each
-byte of a long copy (`rep movsb`) as an instruction.";
+    "Instructions are counted by callgrind: a program makes the call N times, then 2 N times, and the difference is divided by
+N. The cost of the loop around the call is subtracted. Counts are the same from run to run; times are not. Callgrind
+counts each byte of a long copy (`rep movsb`) as an instruction.";
 
-const NOT_COUNTED: &str = "Instructions are not counted: valgrind is not here.";
+const NOT_COUNTED: &str = "Instructions are not counted: valgrind is not installed.";
 
-/// The rows whose names have a text in them, alone.
+/// Only the rows whose names contain a text.
 fn only(text: &str) {
     let mut report = Report::new();
     report.table("peer", all_rows().into_iter().filter(|row| row.name.contains(text)).collect());

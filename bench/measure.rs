@@ -2,13 +2,13 @@
 use std::process::Command;
 use std::time::Instant;
 
-/// A call on a stage of its own.
+/// A call, with its own stage.
 pub type Call = Box<dyn FnMut()>;
 
 pub const ROUNDS: usize = 25;
 const ROUND_SECONDS: f64 = 0.004;
 
-/// How often a call goes into a round.
+/// How many calls fit into a round.
 fn round_of(call: &mut Call) -> u64 {
     let mut count = 1u64;
     loop {
@@ -22,7 +22,7 @@ fn round_of(call: &mut Call) -> u64 {
     }
 }
 
-/// Nanoseconds of one call of each, in its best round: what disturbs a round only adds to it. The rounds take turns.
+/// Nanoseconds of one call of each, in its best round: a disturbance only makes a round longer. Their rounds take turns.
 pub fn times(mut calls: Vec<Call>) -> Vec<f64> {
     let counts: Vec<u64> = calls.iter_mut().map(round_of).collect();
     let mut best = vec![f64::MAX; calls.len()];
@@ -36,7 +36,7 @@ pub fn times(mut calls: Vec<Call>) -> Vec<f64> {
     best
 }
 
-/// The best of seven calls, for calls that may be long: fewer where they take over a second together.
+/// The best of seven calls, for calls that may be long, or of fewer if these take over a second together.
 pub fn few(call: &mut dyn FnMut()) -> f64 {
     let (mut best, mut all) = (f64::MAX, 0.0);
     for _ in 0..7 {
@@ -70,13 +70,13 @@ fn collected(program: &str, words: &[&str]) -> Option<u64> {
 }
 
 /// The instructions of one call: a program makes it `calls` times, and then twice as often; the difference is
-/// what the calls cost. `words` are the program's, to which the number of calls is added.
+/// what the calls cost. `words` are the program's arguments; the number of calls is appended.
 pub fn instructions(program: &str, words: &[&str], calls: u64) -> Option<f64> {
     let of = |n: u64| collected(program, &[words, &[&n.to_string()]].concat());
     Some((of(2 * calls)? as f64 - of(calls)? as f64) / calls as f64)
 }
 
-/// A time in nanoseconds, or a dash where nothing was measured.
+/// A time in nanoseconds, or a dash if nothing was measured.
 pub fn time(ns: Option<f64>) -> String {
     match ns {
         None => "-".into(),
@@ -87,7 +87,7 @@ pub fn time(ns: Option<f64>) -> String {
     }
 }
 
-/// 12,345, or a dash where nothing was counted.
+/// 12,345, or a dash if nothing was counted.
 pub fn number(n: Option<f64>) -> String {
     let Some(n) = n else { return "-".into() };
     let digits = format!("{n:.0}");

@@ -1,14 +1,14 @@
 //! The peer of the benchmark: what a good engineer would write in Rust without proofs. Records stay in the
 //! caller's words, nothing is copied or allocated, lookup is a binary search, blocks are bits of words.
 //!
-//! `judge_*` is 27, in one pass each; the calls named `*_judged` do it every time, as the library must. The
-//! others trust their records.
+//! `validate_*` is 27, in one pass each. The calls named `*_validated`, and `route_all`, do it every time, as the library
+//! must. The others trust their records.
 //!
 //! tests/independent/model has the same rules and shares no code with this file, on purpose. The model is naive, so that it
 //! can be read beside document 01: it copies every record out of its words, and a table of blocks is a `Vec<bool>`. This file is
 //! written for speed. A rule taken from there would make the peer slow; a rule taken from here would make the model hard to
-//! trust. And two readings of the paper, each compared with the library, say more than one. Shared are only the records'
-//! lengths and positions, 2^48, and the numbers of the kinds.
+//! trust. Also, two readings of the paper, each compared with the library, are better evidence than one. The two share only
+//! the records' lengths and positions, 2^48, and the numbers of the kinds.
 #![allow(dead_code)]
 
 use crate::model::{
@@ -25,7 +25,7 @@ const PINS: std::ops::Range<usize> = PINNED..PINNED + TABLE_WORDS;
 
 // ------------------------------------------------------------------------------------------------ 27
 
-pub fn judge_view(view: &[u64], memory_length: u64, region: Option<u64>) -> Option<&[Range]> {
+pub fn validate_view(view: &[u64], memory_length: u64, region: Option<u64>) -> Option<&[Range]> {
     let (&count, rest) = view.split_first()?;
     if view.len() != VIEW || count > MOST_RUNS {
         return None;
@@ -64,7 +64,7 @@ pub fn judge_view(view: &[u64], memory_length: u64, region: Option<u64>) -> Opti
     Some(ranges)
 }
 
-pub fn judge_device(d: &Device) -> bool {
+pub fn validate_device(d: &Device) -> bool {
     let [block, addr, region, usable, requested, ..] = *d;
     if !block.is_power_of_two() || !(1 << 12..=1 << 30).contains(&block) {
         return false;
@@ -94,7 +94,7 @@ pub fn judge_device(d: &Device) -> bool {
     true
 }
 
-pub fn judge_queue(q: &Queue) -> bool {
+pub fn validate_queue(q: &Queue) -> bool {
     let [n, descriptors, available, used, seen, count, stop] = *q;
     n.is_power_of_two()
         && n <= 256
@@ -138,7 +138,7 @@ pub fn route(
     let [first, _, node, offset, kind, base] = ranges[i];
     let offset = offset + (address - first);
     let end = address + width;
-    // Ranges that go on with the same node at the next offset.
+    // Ranges that continue with the same node at the next offset.
     while end - 1 > ranges[i][1] {
         let last = ranges[i][1];
         i += 1;
@@ -160,24 +160,24 @@ pub fn route(
     }
 }
 
-/// wt_route's work: judge, then route.
-pub fn route_judged(
+/// wt_route's work: validate, then route.
+pub fn route_validated(
     view: &[u64],
     memory_length: u64,
     device: Option<&Device>,
     address: u64,
     width: u64,
 ) -> (u64, [u64; RESULT]) {
-    if device.is_some_and(|d| !judge_device(d)) {
+    if device.is_some_and(|d| !validate_device(d)) {
         return (27, [0; RESULT]);
     }
-    match judge_view(view, memory_length, device.map(|d| d[2])) {
+    match validate_view(view, memory_length, device.map(|d| d[2])) {
         None => (27, [0; RESULT]),
         Some(ranges) => route(ranges, device, address, width),
     }
 }
 
-/// wt_route_all's work: judge once, then route each. An answer is the number and the result.
+/// wt_route_all's work: validate once, then route each. An answer is the number and the result.
 pub fn route_all(
     view: &[u64],
     memory_length: u64,
@@ -185,10 +185,10 @@ pub fn route_all(
     accesses: &[u64],
     answers: &mut [u64],
 ) -> u64 {
-    if device.is_some_and(|d| !judge_device(d)) || answers.len() != 2 * accesses.len() {
+    if device.is_some_and(|d| !validate_device(d)) || answers.len() != 2 * accesses.len() {
         return 27;
     }
-    let Some(ranges) = judge_view(view, memory_length, device.map(|d| d[2])) else { return 27 };
+    let Some(ranges) = validate_view(view, memory_length, device.map(|d| d[2])) else { return 27 };
     for (access, answer) in accesses.chunks_exact(2).zip(answers.chunks_exact_mut(4)) {
         let (number, result) = route(ranges, device, access[0], access[1]);
         answer[0] = number;
@@ -280,7 +280,7 @@ pub fn request(d: &mut Device, request: &[u8; REQUEST]) -> (u16, u16) {
 
 // --------------------------------------------------------------------------------------------- step
 
-/// The reachable bytes at an address that lie side by side in memory: place and count.
+/// The reachable bytes from an address on that are contiguous in memory: place and count.
 #[inline]
 fn chunk(ranges: &[Range], d: &Device, address: u64) -> Option<(usize, u64)> {
     let [first, last, _, offset, kind, base] = ranges[find(ranges, address)?];
@@ -327,7 +327,7 @@ fn places<const N: usize>(ranges: &[Range], d: &Device, address: u64) -> Option<
     Some(places)
 }
 
-/// Whether every byte of an element is reachable: range by range, block by block.
+/// Whether every byte of a buffer is reachable: range by range, block by block.
 fn reachable(ranges: &[Range], d: &Device, address: u64, length: u64) -> bool {
     if length == 0 {
         return true;
@@ -434,7 +434,7 @@ fn try_step(
         if !reachable(ranges, d, address, length) {
             return Err(21);
         }
-        // Take what is still wanted of this element.
+        // Take what is still needed from this buffer.
         let mut at = 0;
         if writable {
             while at < length && room < RESPONSE {
@@ -489,34 +489,34 @@ fn try_step(
     Ok(Some(flags & 1 == 0))
 }
 
-/// wt_step's work: judge, then step. The number and the result.
-pub fn step_judged(
+/// wt_step's work: validate, then step. The number and the result.
+pub fn step_validated(
     view: &[u64],
     d: &mut Device,
     q: &mut Queue,
     memory: &mut [u8],
 ) -> (u64, [u64; RESULT]) {
-    if !judge_device(d) || !judge_queue(q) {
+    if !validate_device(d) || !validate_queue(q) {
         return (27, [0; RESULT]);
     }
-    match judge_view(view, memory.len() as u64, Some(d[2])) {
+    match validate_view(view, memory.len() as u64, Some(d[2])) {
         None => (27, [0; RESULT]),
         Some(ranges) => answer(step(ranges, d, q, memory)),
     }
 }
 
-/// wt_run's work: judge once, then up to k steps.
-pub fn run_judged(
+/// wt_run's work: validate once, then up to k steps.
+pub fn run_validated(
     view: &[u64],
     d: &mut Device,
     q: &mut Queue,
     memory: &mut [u8],
     k: u64,
 ) -> (u64, [u64; RESULT]) {
-    if !judge_device(d) || !judge_queue(q) {
+    if !validate_device(d) || !validate_queue(q) {
         return (27, [0; RESULT]);
     }
-    match judge_view(view, memory.len() as u64, Some(d[2])) {
+    match validate_view(view, memory.len() as u64, Some(d[2])) {
         None => (27, [0; RESULT]),
         Some(ranges) => run(ranges, d, q, memory, k),
     }

@@ -14,11 +14,11 @@ struct Line {
 pub struct Report {
     pub text: String,
     lines: Vec<Line>,
-    /// Whether valgrind is there.
+    /// Whether valgrind is installed.
     pub counting: bool,
 }
 
-/// Times in nanoseconds and instructions of a row, by column: of one step or access where a call makes many.
+/// Times in nanoseconds and instructions of a row, by column; if a call makes many steps or accesses, those of one.
 pub struct Measured {
     pub times: Vec<f64>,
     pub instructions: Vec<Option<f64>>,
@@ -30,7 +30,7 @@ impl Measured {
     }
 }
 
-/// What a cell says where nothing was measured.
+/// The contents of a cell if nothing was measured.
 const NOTHING: &str = "-";
 
 pub fn ratio(library: Option<f64>, peer: Option<f64>) -> String {
@@ -84,7 +84,7 @@ impl Report {
         measured
     }
 
-    /// Holds a row to a bar.
+    /// Compares a row with its bar.
     fn hold(&mut self, row: &Row, m: &Measured, bar: Bar) {
         let (library, peer) = (m.instructions[0], m.instructions[1]);
         let within = |a: Option<f64>, b: Option<f64>, most| a.zip(b).map(|(a, b)| a <= most * b);
@@ -118,7 +118,7 @@ impl Report {
         line.met = line.met.zip(met).map(|(before, now)| before && now);
     }
 
-    /// A table of rows: times beside the peers', then instructions beside the peer's.
+    /// A table of rows: times of the library and its peers, then instructions of the library and its peer.
     pub fn table(&mut self, peer: &str, rows: Vec<Row>) -> Vec<Measured> {
         let trusted = rows.iter().any(|row| row.columns.len() > 2);
         let more = if trusted { " trusted | ratio |" } else { "" };

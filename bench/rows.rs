@@ -1,4 +1,4 @@
-//! The rows of the tables: a call of the library and its peers, each on a stage of its own, and the bars.
+//! The rows of the tables: a call of the library and its peers, each on its own stage, and the bars.
 use crate::library;
 use crate::measure::Call;
 use crate::model;
@@ -7,28 +7,28 @@ use crate::stages::{self, Element, Guest, Map, PAGES_MEMORY};
 use std::hint::black_box;
 use std::rc::Rc;
 
-/// The limit that a row is to keep.
+/// The limit set for a row.
 #[derive(Clone, Copy, PartialEq)]
 pub enum Bar {
     Instructions(f64),
-    /// The library's instructions over its peer's.
+    /// The library's instructions divided by its peer's.
     InstructionRatio(f64),
-    /// The library's time over its peer's.
+    /// The library's time divided by its peer's.
     TimeRatio(f64),
 }
 
-/// Makes a call ready on a stage of its own.
+/// Prepares a call on its own stage.
 pub type Column = Box<dyn Fn() -> Call>;
 
 /// One row. The first column is the library's, the second its peer's.
 pub struct Row {
     pub name: String,
-    /// How much a call does: steps of a run, accesses of a call of many.
+    /// How much a call does: the steps of a run, or the accesses of a call with many.
     pub share: f64,
     /// How many calls are counted.
     pub calls: u64,
     pub columns: Vec<Column>,
-    /// What the loop around a call costs by itself: taken off what is counted.
+    /// The loop around a call, without the call: subtracted from what is counted.
     pub nothing: Option<Column>,
     /// The line of the table of bars to which the row belongs.
     pub group: String,
@@ -79,7 +79,7 @@ fn routing(count: u64, call: fn(&Accesses, u64, u64) -> Answer) -> Column {
     })
 }
 
-/// `wt_route`, which judges view and device on each call.
+/// `wt_route`, which validates view and device on each call.
 pub fn route() -> Vec<Row> {
     let row = |count| Row {
         name: format!("wt_route, {count} ranges"),
@@ -88,7 +88,7 @@ pub fn route() -> Vec<Row> {
         columns: vec![
             routing(count, |s, a, w| library::route(&s.view, PAGES_MEMORY, &s.device, a, w)),
             routing(count, |s, a, w| {
-                plain::route_judged(&s.view, PAGES_MEMORY, Some(&s.device), a, w)
+                plain::route_validated(&s.view, PAGES_MEMORY, Some(&s.device), a, w)
             }),
             routing(count, |s, a, w| plain::route(&s.ranges, Some(&s.device), a, w)),
         ],
@@ -110,7 +110,7 @@ fn routing_all(count: u64, call: fn(&Accesses, &mut [u64]) -> u64) -> Column {
     })
 }
 
-/// `wt_route_all`, which judges once for 256 accesses.
+/// `wt_route_all`, which validates once for 256 accesses.
 pub fn route_all() -> Vec<Row> {
     let row = |count| Row {
         name: format!("wt_route_all of 256, {count} ranges"),
@@ -154,7 +154,7 @@ pub fn library_step(g: &mut Guest) -> Answer {
 }
 
 pub fn plain_step(g: &mut Guest) -> Answer {
-    plain::step_judged(&g.view, &mut g.device, &mut g.queue, &mut g.memory)
+    plain::step_validated(&g.view, &mut g.device, &mut g.queue, &mut g.memory)
 }
 
 fn trusted_step(g: &mut Guest) -> Answer {
@@ -166,7 +166,7 @@ pub fn library_run(g: &mut Guest) -> Answer {
 }
 
 pub fn plain_run(g: &mut Guest) -> Answer {
-    plain::run_judged(&g.view, &mut g.device, &mut g.queue, &mut g.memory, 256)
+    plain::run_validated(&g.view, &mut g.device, &mut g.queue, &mut g.memory, 256)
 }
 
 fn trusted_run(g: &mut Guest) -> Answer {
@@ -206,14 +206,14 @@ const WORKS: [(&str, &[(u16, u16)]); 2] =
     [("STATE", &[(3, 1)]), ("PLUG and UNPLUG of 64 blocks in turn", PLUG_UNPLUG)];
 const PLUG_UNPLUG: &[(u16, u16)] = &[(0, 64), (1, 64)];
 
-/// In the rows of `WORKS` nothing is plugged when a PLUG comes; in these it has most to count.
+/// In the rows of `WORKS` nothing is plugged when a PLUG arrives; in these it has the most to count.
 const COUNTING: &str = "PLUG and UNPLUG of 64 blocks beside 960 plugged, a small host of 3 ranges";
 
 fn counting() -> Maker {
     Rc::new(|| stages::plugged_guest(PLUG_UNPLUG))
 }
 
-/// `wt_step`, which judges all records on each call.
+/// `wt_step`, which validates all records on each call.
 pub fn step() -> Vec<Row> {
     let mut rows = vec![];
     for (work, requests) in WORKS {
@@ -238,7 +238,7 @@ pub fn step() -> Vec<Row> {
     rows
 }
 
-/// `wt_run` of 256 steps, which judges once.
+/// `wt_run` of 256 steps, which validates once.
 pub fn run() -> Vec<Row> {
     let mut rows = vec![];
     for (work, requests) in WORKS {
@@ -257,7 +257,7 @@ pub fn run() -> Vec<Row> {
     rows
 }
 
-/// A step by the length of its readable element.
+/// A step by the length of its readable buffer.
 pub fn long_elements() -> Vec<Row> {
     let row = |name, element, length| {
         let make = Rc::new(move || stages::long_guest(element, length));
@@ -277,7 +277,7 @@ pub fn long_elements() -> Vec<Row> {
     rows
 }
 
-/// The longest steps: elements, ranges, and what the ranges are.
+/// The longest steps: buffers, ranges, and whether the ranges are managed.
 const LONGEST: [(u16, u64, bool); 6] = [
     (2, 256, false),
     (256, 4, true),
@@ -287,7 +287,7 @@ const LONGEST: [(u16, u64, bool); 6] = [
     (256, 256, true),
 ];
 
-/// A step by the elements of its chain, each over all ranges but one.
+/// A step by the number of buffers in its chain, each over all ranges except one.
 pub fn long_chains() -> Vec<Row> {
     let row = |(elements, ranges, managed)| {
         let over = if managed { "managed, 1,024 blocks each" } else { "RAM" };
@@ -316,7 +316,7 @@ fn said(call: impl FnOnce(&mut [u64]) -> u64) -> Answer {
     (call(&mut result), result)
 }
 
-/// The calls over maps, each beside the model's.
+/// The calls over maps, each with the model's.
 const OVER_MAPS: [(&str, OverMap, OverMap); 3] = [
     (
         "wt_check_map",

@@ -5,7 +5,7 @@ use crate::plain;
 
 // ----------------------------------------------------------------------------------------------- records
 
-/// `count` ranges of a page with a hole after each: RAM mostly, MMIO and managed among them.
+/// `count` ranges of a page with a hole after each: most of them RAM, some MMIO or managed.
 pub fn pages(count: u64) -> Vec<Run> {
     let page = |i: u64| {
         let (node, kind, base) = match i % 8 {
@@ -29,7 +29,7 @@ pub fn full_device() -> plain::Device {
     d.words()
 }
 
-/// 256 accesses, ranges and widths at random, every one of which succeeds: an address and a width each.
+/// 256 accesses with random ranges and widths, all of which succeed: an address and a width each.
 pub fn accesses(runs: &[Run]) -> Vec<u64> {
     let mut seed = 88172645463325252u64;
     let mut words = Vec::new();
@@ -46,7 +46,7 @@ pub fn accesses(runs: &[Run]) -> Vec<u64> {
 
 // ------------------------------------------------------------------------------------------------- guests
 
-/// A guest whose queue lies in the last range, with one chain (or two that take turns).
+/// A guest whose queue is in the last range, with one chain (or two that take turns).
 pub struct Guest {
     pub view: Vec<u64>,
     pub ranges: Vec<plain::Range>,
@@ -60,7 +60,7 @@ const BLOCK: u64 = 4096;
 const DEVICE_ADDR: u64 = 1 << 32;
 
 impl Guest {
-    /// The queue's areas begin at the address `start`, which lies at `place` in the memory.
+    /// The queue's areas begin at the address `start`, which is at `place` in the memory.
     fn new(
         runs: &[Run],
         device: model::Device,
@@ -103,7 +103,7 @@ pub fn small_guest(requests: &[(u16, u16)]) -> Guest {
     small_host(empty_device(), requests)
 }
 
-/// The same host with a device of 1,024 blocks, all plugged but the first 64: a PLUG has fifteen full words to count.
+/// The same host with a device of 1,024 blocks, all plugged except the first 64: a PLUG has fifteen full words to count.
 pub fn plugged_guest(requests: &[(u16, u16)]) -> Guest {
     let blocks = 1024 * BLOCK;
     let mut device = model::Device::fresh(BLOCK, DEVICE_ADDR, blocks, blocks, blocks).unwrap();
@@ -128,12 +128,12 @@ fn small_host(device: model::Device, requests: &[(u16, u16)]) -> Guest {
     guest_in(&runs, device, 0, requests)
 }
 
-/// RAM of 64 KiB behind the memory of the pages.
+/// RAM of 64 KiB after the memory of the pages.
 fn queue_range(start: u64) -> Run {
     Run { first: start, last: start + 65535, node: 31, offset: 0, kind: RAM, base: PAGES_MEMORY }
 }
 
-/// The queue lies from address `start` on, in the range of `queue_range`.
+/// The queue starts at address `start`, in the range of `queue_range`.
 fn guest_in(runs: &[Run], device: model::Device, start: u64, requests: &[(u16, u16)]) -> Guest {
     let place = PAGES_MEMORY;
     let mut memory = vec![0u8; place as usize + 65536];
@@ -164,7 +164,7 @@ fn guest_in(runs: &[Run], device: model::Device, start: u64, requests: &[(u16, u
     Guest::new(runs, device, start, memory, place as usize)
 }
 
-/// What a long element lies in.
+/// What a long buffer is in.
 #[derive(Clone, Copy)]
 pub enum Element {
     OneRange,
@@ -173,7 +173,7 @@ pub enum Element {
     Managed,
 }
 
-/// A guest whose readable element has a given length. Its memory is not touched, hence not really there.
+/// A guest whose readable buffer has a given length. Most of its memory is never touched, so it takes no real memory.
 pub fn long_guest(element: Element, length: u32) -> Guest {
     let room: u64 = (1 << 31) + (1 << 20);
     let run = |first, size, node, kind, base| Run {
@@ -197,7 +197,7 @@ pub fn long_guest(element: Element, length: u32) -> Guest {
     long_guest_in(runs, length, vec![0u8; room as usize])
 }
 
-/// The request at address 0 in an element of `length`; the queue in the last 64 KiB of the last run.
+/// The request is at address 0 in a buffer of `length`; the queue is in the last 64 KiB of the last run.
 fn long_guest_in(runs: Vec<Run>, length: u32, mut memory: Vec<u8>) -> Guest {
     let last = runs[runs.len() - 1];
     let start = last.last - 65535;
@@ -218,8 +218,8 @@ fn long_guest_in(runs: Vec<Run>, length: u32, mut memory: Vec<u8>) -> Guest {
     Guest::new(&runs, device, start, memory, place)
 }
 
-/// The longest chain that a guest can lay: `elements` of them, all but the last readable and each over all `ranges`
-/// but the queue's own, which is the last. All 256 entries of the ring lead to it.
+/// The longest chain that a guest can make: `elements` buffers, of which all except the last are readable and cover all
+/// `ranges` except the queue's own, which is the last. All 256 entries of the ring refer to it.
 pub fn long_chain(managed: bool, ranges: u64, elements: u16) -> Guest {
     let part = if managed { 1024 * BLOCK } else { BLOCK };
     let (kind, nodes) = if managed { (MANAGED, 1) } else { (RAM, 31) };
@@ -272,7 +272,7 @@ pub fn doubled() -> Map {
     for _ in 0..7 {
         let below = nodes.len() - 1;
         let size = nodes[below].size;
-        let parent = below as u64 + 3; // a child itself, and once more by an alias beside it
+        let parent = below as u64 + 3; // once as a child, and once through an alias beside it
         nodes[below].parent = parent;
         let target = below as u64;
         nodes.push(Node { kind: ALIAS, parent, offset: size, size, target, ..Node::default() });
@@ -281,7 +281,7 @@ pub fn doubled() -> Map {
     Map { words: model::map_words(&nodes), memory: unit }
 }
 
-/// 31 pages of RAM and MMIO side by side: a map as hosts have it.
+/// 31 pages of RAM and MMIO side by side: an ordinary map.
 pub fn ordinary() -> Map {
     let page = |i: u64| {
         let n = Node { parent: 32, offset: i * 8192, size: 4096, ..Node::default() };
@@ -296,19 +296,19 @@ pub fn ordinary() -> Map {
     Map { words: model::map_words(&nodes), memory: 1 << 20 }
 }
 
-/// What stands at the bottom of a tower.
+/// What is at the bottom of a tower.
 #[derive(Clone, Copy, PartialEq)]
 pub enum Bottom {
-    /// Nothing: each address is looked for along every way.
+    /// Nothing: each address is searched along every way.
     Hole,
-    /// A byte at each end, nothing between: many short runs, far apart.
+    /// A byte at each end and nothing between: many short runs, far apart.
     Ends,
-    /// RAM all over: each way shows more of it.
+    /// RAM everywhere: each way shows more of it.
     Whole,
 }
 
-/// Levels of containers, each showing the one below `ways` times (once as a child, else by aliases), laid
-/// over each other and shifted so that all edges differ: there are ways^levels ways through it.
+/// Levels of containers. Each shows the one below `ways` times (once as a child, otherwise through aliases). These
+/// overlap and are shifted so that all edges differ: there are ways^levels ways through it.
 pub fn tower(ways: u64, levels: u32, shifted: bool, bottom: Bottom, leaf: u64) -> Vec<Node> {
     let end =
         |offset, start| Node { kind: RAM, parent: 3, offset, size: 1, start, ..Node::default() };

@@ -5,7 +5,7 @@ use crate::model;
 use crate::report::{ratio, Report};
 use crate::stages::{tower, Bottom};
 
-/// A family of towers: what stands at the bottom, the ways at each level, and whether the edges differ.
+/// A family of towers: what is at the bottom, the ways at each level, and whether the edges differ.
 const FAMILIES: [(Bottom, u64, bool); 10] = [
     (Bottom::Hole, 2, true),
     (Bottom::Hole, 3, true),

@@ -1,9 +1,9 @@
-//! The peer that trusts its map: vm-memory of Debian's librust-vm-memory-dev, which bench/run builds where it
-//! is installed. Prints for each number of ranges the times in nanoseconds (the best of 25 rounds) of `get_slice` (the lookup) and of
-//! `read_obj` (lookup and read) of one access in RAM.
+//! The peer that trusts its map: vm-memory of Debian's librust-vm-memory-dev. bench/run builds it if that is
+//! installed. For each number of ranges it prints the times in nanoseconds (the best of 25 rounds) of `get_slice` (lookup) and of
+//! `read_obj` (lookup and read) for one access in RAM.
 //!
 //!     vm_memory                                 the times
-//!     vm_memory --count get_slice|read_obj RANGES N    256 accesses, N times, to be counted
+//!     vm_memory --count get_slice|read_obj RANGES N    256 accesses, N times, for valgrind to count
 use std::hint::black_box;
 use std::time::Instant;
 use vm_memory::{Bytes, GuestAddress, GuestMemory, GuestMemoryMmap};
@@ -13,7 +13,7 @@ struct Stage {
     accesses: Vec<(u64, usize)>,
 }
 
-/// `count` pages with a hole after each, and 256 accesses at random, as the library's.
+/// `count` pages with a hole after each, and 256 random accesses, like the library's.
 fn stage(count: u64) -> Stage {
     let ranges: Vec<_> = (0..count).map(|i| (GuestAddress(i * 8192), 4096)).collect();
     let memory = GuestMemoryMmap::from_ranges(&ranges).unwrap();

@@ -93,8 +93,8 @@ fn main() {
 
     // The host again, while the guest does not run: one step.
     unsafe {
-        let (lent, bytes) = (memory.as_mut_ptr(), memory.len());
-        must(wt_step(v, WT_VIEW, d, WT_DEVICE, q, WT_QUEUE, lent, bytes, r, WT_RESULT), "wt_step");
+        let (start, bytes) = (memory.as_mut_ptr(), memory.len());
+        must(wt_step(v, WT_VIEW, d, WT_DEVICE, q, WT_QUEUE, start, bytes, r, WT_RESULT), "wt_step");
     }
     println!("served {}, notify {}", result[WT_RESULT_SERVED], result[WT_RESULT_NOTIFY]);
     print_bytes("response", &memory[RESPONSE..RESPONSE + WT_RESPONSE]);

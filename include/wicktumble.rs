@@ -1,13 +1,14 @@
-//! The calls and names of wicktumble.h, for hosts in Rust: the same numbers under the same names (tests/hosts compares the
-//! two). What each means, and what a host must see to, stands in wicktumble.h.
+//! The calls and names of wicktumble.h for hosts in Rust: the same names and numbers (tests/hosts compares the two).
+//! wicktumble.h says what each means and what a host must do.
 //!
-//! Put it beside the host's own files and say `mod wicktumble;`, or name it by `#[path]`. `rustc -L DIR`, or
-//! `cargo:rustc-link-search=DIR` from a build script, says where libwicktumble.a lies.
+//! Needs Rust 1.82 or later; compiles in the editions 2021 and 2024. Copy it beside your own files and write
+//! `mod wicktumble;`, or use `#[path = ".."] mod wicktumble;`. The linker finds libwicktumble.a by `rustc -L DIR`, or by
+//! `cargo:rustc-link-search=DIR` from a build script.
 #![allow(dead_code, non_snake_case)]
 
 pub const WT_VERSION_MAJOR: u64 = 2;
 pub const WT_VERSION_MINOR: u64 = 0;
-pub const WT_VERSION_PATCH: u64 = 1;
+pub const WT_VERSION_PATCH: u64 = 2;
 
 // What a call returns: docs/REFUSALS.md.
 pub const WT_DONE: u64 = 0;
@@ -159,7 +160,7 @@ pub const WT_CONFIGURATION_REQUESTED_SIZE: usize = 48;
 
 #[rustfmt::skip]
 #[link(name = "wicktumble", kind = "static")]
-extern "C" {
+unsafe extern "C" {
     pub fn wt_read_sheet(sheet: *const u8, sheet_len: usize, memory_length: u64,
                          map: *mut u64, map_words: usize, result: *mut u64, result_words: usize) -> u64;
     pub fn wt_check_map(map: *const u64, map_words: usize, memory_length: u64,

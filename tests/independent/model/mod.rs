@@ -5,11 +5,11 @@
 //! It is meant to be read beside the paper, and nothing here is fast or clever. That is why it shares no code with
 //! bench/plain.rs, which is the opposite: the peer of the benchmark, written for speed. This one is compared with the
 //! library for its answers, that one for its time, and two readings of the paper say more than one. Nor does it share a
-//! rule with the library: `records` takes only lengths and positions from the header. Unsafe code is forbidden here, so
-//! nothing can call the library.
+//! rule with the library: `records` takes only lengths and positions from the header. Unsafe code is denied here, except for
+//! the header's declarations, so nothing can call the library.
 //!
 //! tests/independent and bench compile it, and each uses a part.
-#![forbid(unsafe_code)]
+#![deny(unsafe_code)]
 #![allow(dead_code, unused_imports)]
 
 pub mod calls;

@@ -1,6 +1,7 @@
 //! The records as words and bytes: how long each is, and where its fields lie. These numbers come from the header for hosts in
 //! Rust. The rules about them stand in the other files.
 
+#[allow(unsafe_code)] // it declares the library's calls; calling one needs `unsafe`, which is denied
 #[path = "../../../include/wicktumble.rs"]
 mod header;
 
