@@ -14,7 +14,7 @@
 /* ---- the machine: guest memory, and what virtio's transport keeps */
 
 enum { PLUG_WORDS = WT_BLOCKS / 64 };
-enum { DEVICE_NEEDS_RESET = 64 }; /* virtio's device status */
+enum { DRIVER_OK = 4, DEVICE_NEEDS_RESET = 64 }; /* virtio's device status */
 
 struct host {
     uint64_t map[WT_MAP], view[WT_VIEW], device[WT_DEVICE], queue[WT_QUEUE];
@@ -27,11 +27,14 @@ struct host {
 static void queue_interrupt(void) { printf("  queue interrupt\n"); }
 static void configuration_interrupt(void) { printf("  configuration interrupt\n"); }
 
+static void fail(const char *what, uint64_t number) {
+    printf("%s: %d\n", what, (int)number);
+    exit(1);
+}
+
 /* A refusal here is an error of the host itself: a wrong map, or a damaged record. */
 static void must(uint64_t number, const char *call) {
-    if (number == WT_DONE) return;
-    printf("%s: refused %d\n", call, (int)number);
-    exit(1);
+    if (number != WT_DONE) fail(call, number);
 }
 
 static int is_set(const uint64_t *words, uint64_t block) { return words[block / 64] >> (block % 64) & 1; }
@@ -57,7 +60,7 @@ static void start(struct host *h, const uint8_t *sheet, size_t sheet_len, uint64
     must(wt_flatten(h->map, WT_MAP, length, h->view, WT_VIEW, result, WT_RESULT), "wt_flatten");
     must(wt_set_up(h->map, WT_MAP, length, block_size, addr, region_size, 0, h->device, WT_DEVICE, result, WT_RESULT),
          "wt_set_up"); /* usable size: all of the region; requested size: 0 for now */
-    if (!addr_fits(h->view, h->device)) must(WT_REFUSED_SETUP, "addr");
+    if (!addr_fits(h->view, h->device)) fail("not where the map has the managed region", addr);
 }
 
 /* The guest's driver has written the queue's size and addresses and enables it. 0: do not enable it. */
@@ -83,7 +86,7 @@ static void add_memory(struct slot *slots, size_t *count, size_t room, struct sl
     else if (*count < room)
         slots[(*count)++] = more;
     else
-        must(WT_REFUSED_RUNS, "memory_slots: too many");
+        fail("more slots than", room);
 }
 
 /* All RAM, and the plugged blocks of managed ranges. How many slots that takes. */
@@ -147,7 +150,7 @@ static uint64_t steps_per_call(const struct host *h) {
 
 static void drain(struct host *h) {
     uint64_t result[WT_RESULT], before[PLUG_WORDS], number, notify = 0;
-    if (!h->queue_enabled || h->status & DEVICE_NEEDS_RESET) return;
+    if (!h->queue_enabled || (h->status & (DRIVER_OK | DEVICE_NEEDS_RESET)) != DRIVER_OK) return;
     do {
         memcpy(before, &h->device[WT_DEVICE_PLUGGED], sizeof before);
         number = wt_run(h->view, WT_VIEW, h->device, WT_DEVICE, h->queue, WT_QUEUE, h->memory, h->memory_length,
@@ -228,13 +231,12 @@ static void put_descriptor(struct host *h, int entry, uint64_t address, uint64_t
     put(h, at, address, 8), put(h, at + 8, length, 4), put(h, at + 12, flags, 2), put(h, at + 14, entry + 1, 2);
 }
 
-/* Resets the device, clears the rings and enables the queue. */
+/* Resets the device, clears the rings, enables the queue and says that the driver is ready. */
 static void set_queue_up(struct host *h, uint64_t size) {
-    int enabled;
     reset_device(h);
     memset(h->memory + AVAILABLE, 0, REQUEST - AVAILABLE);
-    enabled = enable_queue(h, size, DESCRIPTORS, AVAILABLE, USED);
-    printf("guest: a queue of %d: %s\n", (int)size, enabled ? "enabled" : "not enabled");
+    if (enable_queue(h, size, DESCRIPTORS, AVAILABLE, USED)) h->status |= DRIVER_OK;
+    printf("guest: a queue of %d: %s\n", (int)size, h->queue_enabled ? "enabled" : "not enabled");
 }
 
 /* Offers one chain (request, then response) and notifies the host. */

@@ -10,7 +10,9 @@ use wicktumble::*;
 // ---- the machine: guest memory, and what virtio's transport keeps
 
 const PLUG_WORDS: usize = WT_BLOCKS / 64;
-const DEVICE_NEEDS_RESET: u32 = 64; // virtio's device status
+// Virtio's device status.
+const DRIVER_OK: u32 = 4;
+const DEVICE_NEEDS_RESET: u32 = 64;
 
 #[derive(Clone)]
 struct Host {
@@ -32,11 +34,15 @@ fn configuration_interrupt() {
     println!("  configuration interrupt");
 }
 
+fn fail(what: &str, number: u64) {
+    println!("{what}: {number}");
+    std::process::exit(1);
+}
+
 /// A refusal here is an error of the host itself: a wrong map, or a damaged record.
 fn must(number: u64, call: &str) {
     if number != WT_DONE {
-        println!("{call}: refused {number}");
-        std::process::exit(1);
+        fail(call, number);
     }
 }
 
@@ -92,7 +98,7 @@ impl Host {
             must(number, "wt_set_up");
         }
         if !h.addr_fits() {
-            must(WT_REFUSED_SETUP, "addr");
+            fail("not where the map has the managed region", addr);
         }
         h
     }
@@ -140,7 +146,7 @@ impl Host {
     }
 
     fn drain(&mut self) {
-        if !self.queue_enabled || self.status & DEVICE_NEEDS_RESET != 0 {
+        if !self.queue_enabled || self.status & (DRIVER_OK | DEVICE_NEEDS_RESET) != DRIVER_OK {
             return;
         }
         let mut notify = 0;
@@ -288,12 +294,14 @@ fn put_descriptor(memory: &mut [u8], entry: usize, address: usize, length: usize
     put(memory, at + 14, entry as u64 + 1, 2);
 }
 
-/// Resets the device, clears the rings and enables the queue.
+/// Resets the device, clears the rings, enables the queue and says that the driver is ready.
 fn set_queue_up(h: &mut Host, size: u64) {
     h.reset_device();
     h.memory[AVAILABLE..REQUEST].fill(0);
-    let enabled = h.enable_queue(size, DESCRIPTORS, AVAILABLE, USED);
-    println!("guest: a queue of {size}: {}", if enabled { "enabled" } else { "not enabled" });
+    if h.enable_queue(size, DESCRIPTORS, AVAILABLE, USED) {
+        h.status |= DRIVER_OK;
+    }
+    println!("guest: a queue of {size}: {}", if h.queue_enabled { "enabled" } else { "not enabled" });
 }
 
 /// Offers one chain (request, then response) and notifies the host.
