@@ -72,27 +72,35 @@ static int enable_queue(struct host *h, uint64_t size, uint64_t descriptors, uin
 
 /* ---- memory slots, as KVM_SET_USER_MEMORY_REGION takes them */
 
+enum { PAGE = 4096 };
 struct slot {
     uint64_t guest_address, size;
     uint8_t *host_address;
 };
+struct slots {
+    struct slot *list;
+    size_t count, room;
+};
 
 /* Adds memory from a guest address on: to the last slot if it continues that, or as a slot of its own. */
-static void add_memory(struct slot *slots, size_t *count, size_t room, struct slot more) {
-    struct slot *last = *count ? &slots[*count - 1] : NULL;
+static void add_memory(struct slots *s, struct slot more) {
+    struct slot *last = s->count ? &s->list[s->count - 1] : NULL;
     if (last && last->guest_address + last->size == more.guest_address &&
-        last->host_address + last->size == more.host_address)
+        last->host_address + last->size == more.host_address) {
         last->size += more.size;
-    else if (*count < room)
-        slots[(*count)++] = more;
-    else
-        fail("more slots than", room);
+        return;
+    }
+    if (s->count == s->room) {
+        s->room = 2 * s->room + 16;
+        s->list = realloc(s->list, s->room * sizeof *s->list);
+        if (!s->list) fail("no memory for slots", s->room);
+    }
+    s->list[s->count++] = more;
 }
 
-/* All RAM, and the plugged blocks of managed ranges. How many slots that takes. */
-static size_t memory_slots(const struct host *h, struct slot *slots, size_t room) {
+/* All RAM, and the plugged blocks of managed ranges. */
+static void memory_slots(const struct host *h, struct slots *s) {
     uint64_t block_size = h->device[WT_DEVICE_BLOCK_SIZE], next;
-    size_t count = 0;
     for (uint64_t n = 0; n < h->view[WT_VIEW_COUNT]; n++) {
         const uint64_t *range = &h->view[WT_VIEW_RANGE(n)];
         uint64_t kind = range[WT_RANGE_KIND], first = range[WT_RANGE_FIRST], end = range[WT_RANGE_LAST] + 1;
@@ -102,19 +110,30 @@ static size_t memory_slots(const struct host *h, struct slot *slots, size_t room
             next = kind == WT_KIND_RAM ? end : a + (block + 1) * block_size - offset;
             if (next > end) next = end;
             if (kind == WT_KIND_RAM || is_set(&h->device[WT_DEVICE_PLUGGED], block))
-                add_memory(slots, &count, room, (struct slot){a, next - a, h->memory + range[WT_RANGE_BASE] + offset});
+                add_memory(s, (struct slot){a, next - a, h->memory + range[WT_RANGE_BASE] + offset});
         }
     }
-    return count;
+}
+
+/* Cuts a slot to its whole pages, of the guest and of the host alike. 0: it has none. */
+static int whole_pages(struct slot *slot) {
+    uint64_t skip = -slot->guest_address % PAGE, end = slot->guest_address + slot->size;
+    if (((uintptr_t)slot->host_address - slot->guest_address) % PAGE != 0 || slot->size < skip + PAGE) return 0;
+    slot->guest_address += skip;
+    slot->host_address += skip;
+    slot->size = (end - slot->guest_address) / PAGE * PAGE;
+    return slot->size != 0;
 }
 
 /* A host on KVM deletes its old slots here and adds these, with all vCPUs stopped. */
 static void update_slots(const struct host *h) {
-    static struct slot slots[WT_RANGES + WT_BLOCKS];
-    size_t count = memory_slots(h, slots, sizeof slots / sizeof *slots);
-    for (size_t n = 0; n < count; n++)
-        printf("  slot %d: guest %x, size %x, memory byte %x\n", (int)n, (int)slots[n].guest_address,
-               (int)slots[n].size, (int)(slots[n].host_address - h->memory));
+    struct slots s = {NULL, 0, 0};
+    memory_slots(h, &s);
+    for (size_t n = 0; n < s.count; n++)
+        if (whole_pages(&s.list[n]))
+            printf("  slot: guest %x, size %x, memory byte %x\n", (int)s.list[n].guest_address, (int)s.list[n].size,
+                   (int)(s.list[n].host_address - h->memory));
+    free(s.list);
 }
 
 /* ---- after a change of the plugged blocks */
@@ -134,7 +153,7 @@ static void blocks_changed(struct host *h, const uint64_t *before) {
     update_slots(h);
     for (uint64_t block = 0; block < WT_BLOCKS; block++) {
         if (!is_set(before, block) || is_set(now, block)) continue;
-        madvise(h->memory + start + block * size, size, MADV_DONTNEED);
+        if (madvise(h->memory + start + block * size, size, MADV_DONTNEED)) fail("madvise", block);
         printf("  block %d given back\n", (int)block);
     }
 }
@@ -148,18 +167,21 @@ static uint64_t steps_per_call(const struct host *h) {
     return k < 1 ? 1 : k > 256 ? 256 : k;
 }
 
+static int may_serve(const struct host *h) {
+    return h->queue_enabled && (h->status & (DRIVER_OK | DEVICE_NEEDS_RESET)) == DRIVER_OK;
+}
+
 static void drain(struct host *h) {
-    uint64_t result[WT_RESULT], before[PLUG_WORDS], number, notify = 0;
-    if (!h->queue_enabled || (h->status & (DRIVER_OK | DEVICE_NEEDS_RESET)) != DRIVER_OK) return;
-    do {
+    uint64_t result[WT_RESULT] = {0}, before[PLUG_WORDS], number = WT_DONE, notify = 0;
+    while (may_serve(h) && number == WT_DONE && !result[WT_RESULT_IDLE]) {
         memcpy(before, &h->device[WT_DEVICE_PLUGGED], sizeof before);
         number = wt_run(h->view, WT_VIEW, h->device, WT_DEVICE, h->queue, WT_QUEUE, h->memory, h->memory_length,
                         steps_per_call(h), result, WT_RESULT);
-        if (number == WT_REFUSED_RECORD) must(number, "wt_run"); /* an error of the host; result may be stale */
+        if (number == WT_REFUSED_RECORD) fail("wt_run", number); /* an error of the host; result may be stale */
         blocks_changed(h, before);
         if (result[WT_RESULT_SERVED]) h->generation++;           /* the plugged size may have changed */
         notify |= result[WT_RESULT_NOTIFY];                      /* even if number is 17 to 22 */
-    } while (number == WT_DONE && !result[WT_RESULT_IDLE]);
+    }
     if (notify) queue_interrupt();
     if (number != WT_DONE) { /* 17 to 22: the queue is stopped */
         printf("  queue stopped: %d\n", (int)number);
@@ -172,7 +194,7 @@ static void drain(struct host *h) {
 
 static void configuration_changed(struct host *h) {
     h->generation++;
-    configuration_interrupt();
+    if (h->status & DRIVER_OK) configuration_interrupt();
 }
 
 static void resize(struct host *h, uint64_t size) {
@@ -190,7 +212,7 @@ static void unpin(struct host *h, uint64_t block) {
 static void access_guest(struct host *h, uint64_t address, uint64_t width) {
     uint64_t result[WT_RESULT], number;
     number = wt_route(h->view, WT_VIEW, h->memory_length, h->device, WT_DEVICE, address, width, result, WT_RESULT);
-    if (number != WT_DONE) /* 24, 26: usually all ones for a read, nothing for a write. 25: split it at the edge */
+    if (number != WT_DONE) /* of one byte: usually all ones for a read, nothing for a write */
         printf("%x: refused %d\n", (int)address, (int)number);
     else if (result[WT_RESULT_TARGET] == WT_TO_PORT)
         printf("%x: port %d, register %x\n", (int)address, (int)result[WT_RESULT_PORT],
@@ -254,12 +276,13 @@ static void ask(struct host *h, const char *name, uint64_t type, uint64_t addres
     printf("  response %d\n", h->memory[RESPONSE + WT_RESPONSE_TYPE]);
 }
 
-/* ---- the map: 16 KiB of RAM at 0, a window of port 7 at 0x4000, the managed region of 8 blocks at 0x8000 */
+/* ---- the map: 16 KiB of RAM at 0, in it a window of 32 bytes with port 7 at 0x3010, and the managed region of 8
+ * blocks at 0x8000 */
 
 static const uint8_t sheet[] = {
     4, /* regions; then for each: kind, parent + 1, offset, size, priority field, memory start or port */
     WT_KIND_RAM,       4, 0,                0x80, 0x80, 0x01, 0, 0,
-    WT_KIND_MMIO,      4, 0x80, 0x80, 0x01, 0x80, 0x20,       0, 7,
+    WT_KIND_MMIO,      4, 0x90, 0x60,       0x20,             129, 1, 7, /* priority field 129: over the RAM */
     WT_KIND_MANAGED,   4, 0x80, 0x80, 0x02, 0x80, 0x80, 0x02, 0, 0x80, 0x80, 0x01,
     WT_KIND_CONTAINER, 0, 0,                0x80, 0x80, 0x04, 0,
 };
@@ -283,7 +306,8 @@ int main(void) {
     ask(&h, "PLUG", WT_PLUG, ADDR, 3);
     access_guest(&h, 0xaff8, 8);
     access_guest(&h, 0xb000, 8);
-    access_guest(&h, 0x4010, 4);
+    access_guest(&h, 0x3020, 4);
+    access_guest(&h, 0x3800, 4); /* RAM, but in no whole page of it: there is no slot */
 
     must(wt_pin(h.device, WT_DEVICE, 1), "wt_pin");
     printf("block 1 pinned, requested size: 0\n");

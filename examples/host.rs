@@ -10,6 +10,7 @@ use wicktumble::*;
 // ---- the machine: guest memory, and what virtio's transport keeps
 
 const PLUG_WORDS: usize = WT_BLOCKS / 64;
+const PAGE: u64 = 4096;
 // Virtio's device status.
 const DRIVER_OK: u32 = 4;
 const DEVICE_NEEDS_RESET: u32 = 64;
@@ -48,6 +49,13 @@ fn must(number: u64, call: &str) {
 
 fn is_set(words: &[u64], block: usize) -> bool {
     words[block / 64] >> (block % 64) & 1 == 1
+}
+
+/// A slot cut to its whole pages, of the guest and of the host alike, if it has any. (Memory begins at a page here.)
+fn whole_pages((address, size, place): (u64, u64, u64)) -> Option<(u64, u64, u64)> {
+    let skip = address.wrapping_neg() % PAGE;
+    let whole = size.checked_sub(skip)? / PAGE * PAGE;
+    (whole > 0 && address % PAGE == place % PAGE).then_some((address + skip, whole, place + skip))
 }
 
 impl Host {
@@ -145,30 +153,26 @@ impl Host {
         (65536 / work).clamp(1, 256)
     }
 
+    fn may_serve(&self) -> bool {
+        self.queue_enabled && self.status & (DRIVER_OK | DEVICE_NEEDS_RESET) == DRIVER_OK
+    }
+
     fn drain(&mut self) {
-        if !self.queue_enabled || self.status & (DRIVER_OK | DEVICE_NEEDS_RESET) != DRIVER_OK {
-            return;
-        }
-        let mut notify = 0;
-        let number = loop {
-            let before = self.plugged().to_vec();
-            let (k, mut result) = (self.steps_per_call(), [0; WT_RESULT]);
+        let (mut number, mut notify, mut result) = (WT_DONE, 0, [0; WT_RESULT]);
+        while self.may_serve() && number == WT_DONE && result[WT_RESULT_IDLE] == 0 {
+            let (before, k) = (self.plugged().to_vec(), self.steps_per_call());
             let (v, d, q) = (self.view.as_ptr(), self.device.as_mut_ptr(), self.queue.as_mut_ptr());
             let (memory, length, r) = (self.memory.as_mut_ptr(), self.memory.len(), result.as_mut_ptr());
-            let number =
-                unsafe { wt_run(v, WT_VIEW, d, WT_DEVICE, q, WT_QUEUE, memory, length, k, r, WT_RESULT) };
+            number = unsafe { wt_run(v, WT_VIEW, d, WT_DEVICE, q, WT_QUEUE, memory, length, k, r, WT_RESULT) };
             if number == WT_REFUSED_RECORD {
-                must(number, "wt_run"); // an error of the host
+                fail("wt_run", number); // an error of the host; result may be stale
             }
             self.blocks_changed(&before);
             if result[WT_RESULT_SERVED] != 0 {
                 self.generation += 1; // the plugged size may have changed
             }
             notify |= result[WT_RESULT_NOTIFY]; // even if number is 17 to 22
-            if number != WT_DONE || result[WT_RESULT_IDLE] != 0 {
-                break number;
-            }
-        };
+        }
         if notify != 0 {
             queue_interrupt();
         }
@@ -183,7 +187,9 @@ impl Host {
 
     fn configuration_changed(&mut self) {
         self.generation += 1;
-        configuration_interrupt();
+        if self.status & DRIVER_OK != 0 {
+            configuration_interrupt();
+        }
     }
 
     fn resize(&mut self, size: u64) {
@@ -204,7 +210,7 @@ impl Host {
 
     // ---- an access that has no memory slot
 
-    /// 24, 26: usually all ones for a read, nothing for a write. 25: split it at the edge.
+    /// A refused access of one byte: usually all ones for a read, nothing for a write.
     fn access(&self, address: u64, width: u64) {
         let (length, mut result) = (self.memory.len() as u64, [0; WT_RESULT]);
         let (v, d, r) = (self.view.as_ptr(), self.device.as_ptr(), result.as_mut_ptr());
@@ -247,8 +253,8 @@ impl Host {
 
     /// A host on KVM deletes its old slots here and adds these, with all vCPUs stopped.
     fn update_slots(&self) {
-        for (n, (address, size, place)) in self.memory_slots().into_iter().enumerate() {
-            println!("  slot {n}: guest {address:x}, size {size:x}, memory byte {place:x}");
+        for (address, size, place) in self.memory_slots().into_iter().filter_map(whole_pages) {
+            println!("  slot: guest {address:x}, size {size:x}, memory byte {place:x}");
         }
     }
 
@@ -320,14 +326,15 @@ fn ask(h: &mut Host, name: &str, kind: u64, address: u64, blocks: u64) {
     println!("  response {}", h.memory[RESPONSE + WT_RESPONSE_TYPE]);
 }
 
-// ---- the map: 16 KiB of RAM at 0, a window of port 7 at 0x4000, the managed region of 8 blocks at 0x8000
+// ---- the map: 16 KiB of RAM at 0, in it a window of 32 bytes with port 7 at 0x3010, and the managed region of 8
+// blocks at 0x8000
 
 /// Regions; then for each: kind, parent + 1, offset, size, priority field, memory start or port.
 #[rustfmt::skip]
 const SHEET: &[u8] = &[
     4,
     WT_KIND_RAM as u8,       4, 0,                0x80, 0x80, 0x01, 0, 0,
-    WT_KIND_MMIO as u8,      4, 0x80, 0x80, 0x01, 0x80, 0x20,       0, 7,
+    WT_KIND_MMIO as u8,      4, 0x90, 0x60,       0x20,             129, 1, 7, // priority field 129: over the RAM
     WT_KIND_MANAGED as u8,   4, 0x80, 0x80, 0x02, 0x80, 0x80, 0x02, 0, 0x80, 0x80, 0x01,
     WT_KIND_CONTAINER as u8, 0, 0,                0x80, 0x80, 0x04, 0,
 ];
@@ -348,7 +355,8 @@ fn main() {
     ask(&mut h, "PLUG", WT_PLUG, ADDR, 3);
     h.access(0xaff8, 8);
     h.access(0xb000, 8);
-    h.access(0x4010, 4);
+    h.access(0x3020, 4);
+    h.access(0x3800, 4); // RAM, but in no whole page of it: there is no slot
 
     h.pin(1);
     println!("block 1 pinned, requested size: 0");

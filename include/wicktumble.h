@@ -118,8 +118,8 @@ enum wt_number {
 #define WT_KIND_MANAGED 4 /* the memory device's region */
 
 /* A view: the number of ranges, then 256 ranges of six words, ascending by address. Range n begins at word
- * WT_VIEW_RANGE(n). Ranges past the number are ignored. A host may write a view itself: all of it is checked (27)
- * except the port, which is any number. */
+ * WT_VIEW_RANGE(n). Ranges past the number are ignored. A host may write a view itself. 27 then checks each range and
+ * their order, but not ports, nor that regions share no memory: prefer wt_flatten. */
 #define WT_RANGES 256
 #define WT_VIEW_COUNT 0
 #define WT_VIEW_RANGE(n) (1 + 6 * (n))

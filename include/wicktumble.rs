@@ -2,8 +2,8 @@
 //! wicktumble.h says what each means and what a host must do.
 //!
 //! Needs Rust 1.82 or later; compiles in the editions 2021 and 2024. Copy it beside your own files and write
-//! `mod wicktumble;`, or use `#[path = ".."] mod wicktumble;`. The linker finds libwicktumble.a by `rustc -L DIR`, or by
-//! `cargo:rustc-link-search=DIR` from a build script.
+//! `mod wicktumble;`, or use `#[path = ".."] mod wicktumble;`. The linker finds libwicktumble.a by `rustc -L DIR`, or
+//! by `cargo:rustc-link-search=DIR` from a build script.
 #![allow(dead_code, non_snake_case)]
 
 pub const WT_VERSION_MAJOR: u64 = 2;

@@ -252,6 +252,8 @@ static void hand_made_view(void) {
     view[WT_VIEW_COUNT] = 1;
     RANGE(0, LAST) = 0xff, RANGE(0, KIND) = WT_KIND_MMIO, RANGE(0, BASE) = UINT64_MAX;
     SAME(route(4, 4), WT_DONE), RESULT_IS(WT_TO_PORT, UINT64_MAX, 4); /* any port */
+    RANGE(0, KIND) = WT_KIND_RAM, RANGE(0, BASE) = 0x4000; /* memory of the managed region: 27 knows no map */
+    SAME(route(4, 4), WT_DONE), RESULT_IS(WT_TO_MEMORY, 0x4004, 0);
 }
 
 static void queues(void) {
@@ -265,6 +267,18 @@ static void queues(void) {
     memset(queue, 0, sizeof queue);
     SAME(step(), WT_REFUSED_RECORD); /* no queue yet */
     SAME(wt_reset_queue(queue, WT_QUEUE), WT_REFUSED_RECORD);
+}
+
+/* Which of 24 to 26 an access across an edge gets: by its first byte, by the region, by any byte. */
+static void edges(void) {
+    begin();
+    offer(WT_PLUG, ADDR, 1, 1);
+    SAME(step(), WT_DONE);
+    SAME(route(SECOND_AT - 4, 8), WT_REFUSED_HOLE);
+    SAME(route(0x3ffc, 8), WT_REFUSED_SPLIT);
+    SAME(route(ADDR + BLOCK - 4, 8), WT_REFUSED_UNPLUGGED);
+    SAME(route(ADDR + BLOCK - 4, 4), WT_DONE);
+    SAME(route(0, 3), WT_REFUSED_WIDTH);
 }
 
 /* memory + base + offset + a - first, of a RAM or managed range, is where a routed access goes. */
@@ -335,6 +349,7 @@ int main(void) {
     no_device();
     maps();
     hand_made_view();
+    edges();
     queues();
     host_addresses();
     bytes_of_a_step();
