@@ -1,19 +1,7 @@
 /* What docs/HOSTS.md, docs/REFUSALS.md and the header tell a host beyond the rules: a function for each section. tests/hosts
  * builds and runs it; it prints what differs. */
-#include "wicktumble.h"
-#include <stdio.h>
-#include <string.h>
+#include "check.h"
 
-static int failed;
-
-static void same_at(int line, const char *what, uint64_t got, uint64_t wanted) {
-    if (got != wanted) {
-        printf("tests/facts.c:%d: %s is %llu, not %llu\n", line, what, (unsigned long long)got,
-               (unsigned long long)wanted);
-        failed++;
-    }
-}
-#define SAME(got, wanted) same_at(__LINE__, #got, got, wanted)
 #define RESULT_IS(a, b, c) (SAME(result[0], a), SAME(result[1], b), SAME(result[2], c))
 
 enum { RAM, MANAGED, SECOND, ROOT, COUNT }; /* the regions of the map */
@@ -22,14 +10,6 @@ enum { SIZE = 4, DESCRIPTORS = 0x1000, AVAILABLE = 0x1040, USED = 0x1080, REQUES
 enum { NEXT = 1, WRITE = 2 };
 
 static uint8_t memory[0x4000 + BLOCKS * BLOCK];
-static uint64_t map[WT_MAP], view[WT_VIEW], device[WT_DEVICE], queue[WT_QUEUE], result[WT_RESULT];
-
-#define FIELD(n, field) map[WT_MAP_REGION(n) + WT_REGION_##field]
-#define RANGE(n, field) view[WT_VIEW_RANGE(n) + WT_RANGE_##field]
-
-static void put_region(int n, uint64_t kind, uint64_t parent, uint64_t offset, uint64_t size) {
-    FIELD(n, KIND) = kind, FIELD(n, PARENT) = parent, FIELD(n, OFFSET) = offset, FIELD(n, SIZE) = size;
-}
 
 /* RAM at 0, the managed region at ADDR, a second way into the RAM, the root. */
 static void make_map(void) {

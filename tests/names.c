@@ -1,19 +1,6 @@
 /* Every name of include/wicktumble.h beside what the library does: records are built and read by name alone, and each
  * refusal is provoked once. tests/hosts builds and runs it; it prints what differs. */
-#include "wicktumble.h"
-#include <stdio.h>
-#include <string.h>
-
-static int failed;
-
-static void same_at(int line, const char *what, uint64_t got, uint64_t wanted) {
-    if (got != wanted) {
-        printf("tests/names.c:%d: %s is %llu, not %llu\n", line, what, (unsigned long long)got,
-               (unsigned long long)wanted);
-        failed++;
-    }
-}
-#define SAME(got, wanted) same_at(__LINE__, #got, got, wanted)
+#include "check.h"
 
 enum { RAM, DEVICE_REGISTERS, MANAGED, WINDOW, ROOT, COUNT }; /* the regions of the map */
 enum { BLOCK = 4096, ADDR = 0x30000, PORT = 7 };
@@ -21,14 +8,6 @@ enum { DESCRIPTORS = 0x1000, AVAILABLE = 0x1040, USED = 0x1080, REQUEST = 0x2000
 enum { NEXT = 1, WRITE = 2, INDIRECT = 4 };
 
 static uint8_t memory[0x4000 + 0x8000];
-static uint64_t map[WT_MAP], view[WT_VIEW], device[WT_DEVICE], queue[WT_QUEUE], result[WT_RESULT];
-
-#define FIELD(n, field) map[WT_MAP_REGION(n) + WT_REGION_##field]
-#define RANGE(n, field) view[WT_VIEW_RANGE(n) + WT_RANGE_##field]
-
-static void put_region(int n, uint64_t kind, uint64_t parent, uint64_t offset, uint64_t size) {
-    FIELD(n, KIND) = kind, FIELD(n, PARENT) = parent, FIELD(n, OFFSET) = offset, FIELD(n, SIZE) = size;
-}
 
 /* RAM at 0, a device's registers, the managed region, a window into the RAM's second page. */
 static void make_map(void) {
