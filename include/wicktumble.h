@@ -96,7 +96,7 @@ enum wt_number {
 /* A map: the number of regions, then 32 regions of nine words. Region n begins at word WT_MAP_REGION(n); its size, for
  * example, is map[WT_MAP_REGION(n) + WT_REGION_SIZE]. Regions past the number are ignored. The root is the last
  * region. A word that the region's kind does not have must be 0. RAM, MMIO and containers may have children. A region
- * without a parent is visible only through aliases. The higher priority wins. */
+ * without a parent, except the root, is visible only through aliases. The higher priority wins. */
 #define WT_REGIONS 32
 #define WT_MAP_COUNT 0
 #define WT_MAP_REGION(n) (1 + 9 * (n))
@@ -151,7 +151,8 @@ enum wt_number {
 #define WT_QUEUE_NEXT_USED 5      /* chains returned */
 #define WT_QUEUE_STOP 6           /* 0, or the number (17 to 22) that stopped it */
 
-/* A result, by the call that writes it. Words without a name are 0. wt_read_sheet, refused with 1 to 5: */
+/* A result, by the call that writes it. Words without a name are 0. */
+/* wt_read_sheet, refused with 1 to 5: */
 #define WT_RESULT_PLACE 0 /* a position in the sheet, in bytes from 0 */
 /* Refused with 6 to 11, or with 3 and 4 by a call that takes a map: */
 #define WT_RESULT_REGION_A 0 /* the region at fault, twice; or the two regions that clash, the lower number first */
@@ -172,7 +173,7 @@ enum wt_number {
 /* wt_step, wt_run: */
 #define WT_RESULT_SERVED 0 /* chains served, also before a refusal of wt_run */
 #define WT_RESULT_NOTIFY 1 /* 1: raise the queue's interrupt */
-#define WT_RESULT_IDLE 2   /* wt_run only: 1 if no more chains are available; 0 after 17 to 22 and for k = 0 */
+#define WT_RESULT_IDLE 2   /* wt_run only: 1 if it ended because it found no chain; 0 after k chains or 17 to 22 */
 
 /* wt_route_all: the words of one access, and of its answer. */
 #define WT_ACCESS 2
@@ -251,8 +252,8 @@ uint64_t wt_set_up(const uint64_t *map, size_t map_words, uint64_t memory_length
  * configuration interrupt. Refuses with 14, 27. */
 uint64_t wt_set_requested_size(uint64_t *device, size_t device_words, uint64_t size);
 
-/* Pins a plugged block, so that the guest cannot unplug it, and unpins it. Then raise the configuration interrupt
- * after wt_unpin. Refuse with 15, 27. */
+/* Pins a plugged block, so that the guest cannot unplug it; unpins it. After wt_unpin raise the configuration
+ * interrupt. Both refuse with 15, 27. */
 uint64_t wt_pin(uint64_t *device, size_t device_words, uint64_t block);
 uint64_t wt_unpin(uint64_t *device, size_t device_words, uint64_t block);
 
