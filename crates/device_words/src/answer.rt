@@ -26,7 +26,7 @@ const UNPLUG_ALL: u64 = 2;
 const STATE: u64 = 3;
 
 // The blocks that a request asks for: none that it may ask for, or the first and how many they are.
-#[derive(Drop)]
+#[derive(Clone, Copy)]
 pub enum Asked {
     Outside,
     Run(BlockNumber, usize),

@@ -5,7 +5,7 @@ use map_records::map::{GuestAddress, RegionOffset};
 use map_records::numbers::least;
 
 // Document 01's block number.
-#[derive(Drop)]
+#[derive(Clone, Copy)]
 pub struct BlockNumber(pub u16);
 
 // 'Block of a byte = its offset in the managed node divided by the block size.'

@@ -7,7 +7,7 @@ use crate::bytes::{REQUEST_BYTES, RESPONSE_BYTES, number_at, response_bytes};
 use map_records::map::GuestAddress;
 
 // A request of the guest, as its bytes have it.
-#[derive(Drop)]
+#[derive(Clone, Copy)]
 pub struct Request {
     pub kind: u64,
     pub addr: GuestAddress,
@@ -15,7 +15,7 @@ pub struct Request {
 }
 
 // The device's answer. The last three acknowledge a STATE.
-#[derive(Drop)]
+#[derive(Clone, Copy)]
 pub enum Response {
     Ack,
     Nack,

@@ -23,7 +23,7 @@ pub const PINNED: usize = 21;
 pub const DEVICE_WORDS: usize = 37;
 
 // The sizes and the address by which requests are answered.
-#[derive(Drop)]
+#[derive(Clone, Copy)]
 pub struct Sizes {
     pub block_size: u64,
     pub addr: GuestAddress,

@@ -10,7 +10,7 @@ use region_map::resolve::root_offset;
 
 // Inside the region from an offset up to another; outside it or a region above it; or the region is
 // aside: the root does not stand above it.
-#[derive(Drop)]
+#[derive(Clone, Copy)]
 pub enum Position {
     Aside,
     Outside,

@@ -4,7 +4,7 @@ ghost use Rattle.drawing.specs.Drawing.{row_at};
 ghost use Rattle.map_records.specs.Limits.{most_regions};
 
 // The addresses, their ruler, a region by its number, and the flat view.
-#[derive(Drop)]
+#[derive(Clone, Copy)]
 pub enum Row {
     Addresses,
     Ruler,

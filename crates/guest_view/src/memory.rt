@@ -13,7 +13,7 @@ use map_records::numbers::wide;
 use map_records::words::range_at;
 
 // A byte's memory place, and how many bytes after it follow it there.
-#[derive(Drop)]
+#[derive(Clone, Copy)]
 struct Stretch {
     place: usize,
     left: u64,

@@ -14,7 +14,7 @@ use map_records::numbers::least;
 use map_records::words::{count_of, range_at};
 
 // How far bytes are reachable from one on.
-#[derive(Drop)]
+#[derive(Clone, Copy)]
 pub enum Extent {
     // The byte is, and so are this many after it.
     Go(u64),

@@ -36,5 +36,5 @@ module _ (m : RegionMap) (memory : ℕ) where
   unfolding judged_by on_regions on_pairs
   judged_parts e =
       rw e
-      (then_four (on_regions m memory) (first_pair 8 (clash pair-rule.Memory m) m.count) (first_pair 9 (clash pair-rule.Managed m) m.count)
-      (first_pair 10 (clash pair-rule.Ports m) m.count) (first_pair 11 (clash pair-rule.Siblings m) m.count))
+      (then_four (on_regions m memory) (first_pair 8 (clash pair_rule.Memory m) m.count) (first_pair 9 (clash pair_rule.Managed m) m.count)
+      (first_pair 10 (clash pair_rule.Ports m) m.count) (first_pair 11 (clash pair_rule.Siblings m) m.count))

@@ -13,7 +13,7 @@ use map_records::refusal;
 use map_records::words::{MAP_WORDS, region_count};
 
 // Accepted, or the refusal of document 01 with its nodes: 3, 4 and 6 to 11.
-#[derive(Drop)]
+#[derive(Clone, Copy)]
 pub enum MapAnswer {
     Accepted,
     Count,

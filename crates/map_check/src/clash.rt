@@ -13,7 +13,7 @@ use map_records::map::{MANAGED, MMIO, REGIONS, Region, has_memory};
 use map_records::words::region_at;
 
 // The rules that are searched for over all pairs: 8's shared byte, 9, 10 and 11.
-#[derive(Drop)]
+#[derive(Clone, Copy)]
 pub enum PairRule {
     Memory,
     Managed,

@@ -10,7 +10,7 @@ use map_records::numbers::{LIMIT, MOST_IN_BYTE, sum_within};
 use map_records::words::{region_at, region_count};
 
 // The rules that are searched for over all regions: 4, 6, 7, and 8's ends past the memory.
-#[derive(Drop)]
+#[derive(Clone, Copy)]
 pub enum NodeRule {
     Kind,
     Field,

@@ -6,13 +6,13 @@ use crate::clash::{PairRule, clashes};
 use crate::fault::{NodeRule, at_fault};
 use map_records::words::region_count;
 
-#[derive(Drop)]
+#[derive(Clone, Copy)]
 pub enum Lowest {
     Node(usize),
     Nothing,
 }
 
-#[derive(Drop)]
+#[derive(Clone, Copy)]
 pub enum Pair {
     Found(usize, usize),
     Nothing,

@@ -1,5 +1,5 @@
 -- Records that lie as groups of k words, one behind another: how many, one read, one stored, and the words of all. Stated once over any group. Assumes nothing.
-use mathlib.Core.Path.{◌≡◌, refl, sym, ap, ◌∙◌}
+use mathlib.Core.Path.{◌≡◌, refl, sym, ap, subst, ◌∙◌}
 use mathlib.Core.List.{List, [], ◌∷◌, ◌++◌, append_assoc}
 use Prim.Native.Nat.{ℕ, zero, suc, ◌+◌, ◌*◌, ◌≤◌, ◌<◌}
 use native.Mathlib.Nat.{mul-zero, mul-suc, zero-add}
@@ -57,10 +57,10 @@ module _ {A : Type 0} {read : List ℕ → ℕ → A} {put : A → List ℕ} {k 
   stored_group w at zero i x h room = absurd (omega arith)
   stored_group w at (suc n) zero x h room =
       let e : at + k * 0 ≡ at = omega (arith, mul-zero k) in
-      rw e (λ j. read_stored w at x (omega (arith, mul-suc k n)) j ∷ reads_behind w at (at + k) n x (omega arith) j)
+      subst (λ (p : ℕ). each_at read k (sets w p (put x)) at (suc n) ≡ set (each_at read k w at (suc n)) 0 x) (sym e) (λ j. read_stored w at x (omega (arith, mul-suc k n)) j ∷ reads_behind w at (at + k) n x (omega arith) j)
   stored_group w at (suc n) (suc i) x h room =
       let e : at + k * suc i ≡ at + k + k * i = omega (arith, mul-suc k i) in
-      rw e (λ j. read_before w (at + k + k * i) at x (omega arith) j ∷ stored_group w (at + k) n i x (omega arith) (omega (arith, mul-suc k n)) j)
+      subst (λ (p : ℕ). each_at read k (sets w p (put x)) at (suc n) ≡ set (each_at read k w at (suc n)) (suc i) x) (sym e) (λ j. read_before w (at + k + k * i) at x (omega arith) j ∷ stored_group w (at + k) n i x (omega arith) (omega (arith, mul-suc k n)) j)
 
   -- ---- words that are the same from a place on give the same records there, and blank ones blank records
   pub reads_same : (w v : List ℕ) (at n : ℕ) → ((j : ℕ) → at ≤ j → get_or w j 0 ≡ get_or v j 0) → each_at read k w at n ≡ each_at read k v at n

@@ -4,11 +4,11 @@ ghost use Rattle.std.specs.Prelude.{◌≡◌};
 ghost use Rattle.map_records.specs.Map.{is_kind, has_memory, has as has_field, value_of, with_value};
 
 // Document 01's guest address.
-#[derive(Drop)]
+#[derive(Clone, Copy)]
 pub struct GuestAddress(pub u64);
 
 // Document 01's offset inside a node.
-#[derive(Drop)]
+#[derive(Clone, Copy)]
 pub struct RegionOffset(pub u64);
 
 // Document 01's kinds of node.
@@ -40,7 +40,7 @@ pub fn has_memory(kind: u64) -> bool
 pub const REGIONS: usize = 32;
 
 // Document 01's node. `parent` is the parent's number + 1, and 0 where there is none.
-#[derive(Drop)]
+#[derive(Clone, Copy)]
 pub struct Region {
     pub kind: u64,
     pub parent: usize,
@@ -62,7 +62,7 @@ pub struct RegionMap {
 }
 
 // The fields of a region besides its kind.
-#[derive(Drop)]
+#[derive(Clone, Copy)]
 pub enum Field {
     Parent,
     Offset,

@@ -6,7 +6,7 @@ pub const RANGES: usize = 256;
 
 // Document 01's run: addresses first to last lead to a region, from an offset on. `base` is the
 // region's memory start or port.
-#[derive(Drop)]
+#[derive(Clone, Copy)]
 pub struct FlatRange {
     pub first: GuestAddress,
     pub last: GuestAddress,

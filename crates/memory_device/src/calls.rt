@@ -17,7 +17,7 @@ use device_words::words::{block_size, region_size};
 use map_records::map::RegionOffset;
 
 // The block of a byte, or that the byte lies outside the region, or 27.
-#[derive(Drop)]
+#[derive(Clone, Copy)]
 pub enum ByteBlock {
     At(BlockNumber),
     Outside,

@@ -15,7 +15,7 @@ use map_records::refusal;
 use map_records::words::copy_words;
 
 // The memory device. Block b is plugged, or pinned, where bit b % 64 of word b / 64 is set.
-#[derive(Drop)]
+#[derive(Clone, Copy)]
 pub struct MemoryDevice {
     pub block_size: u64,
     pub addr: GuestAddress,
@@ -27,7 +27,7 @@ pub struct MemoryDevice {
 }
 
 // What a call of the host answers: done, or the refusal 14, 15 or 27 of document 01.
-#[derive(Drop)]
+#[derive(Clone, Copy)]
 pub enum HostAnswer {
     Done,
     Size,
@@ -36,7 +36,7 @@ pub enum HostAnswer {
 }
 
 // The answer, and the next state: the one given, where the call is refused.
-#[derive(Drop)]
+#[derive(Clone, Copy)]
 pub struct Changed {
     pub answer: HostAnswer,
     pub device: MemoryDevice,

@@ -13,7 +13,7 @@ use device_words::rules::device_ok;
 use map_records::map::RegionOffset;
 
 // The answer, and the configuration's bytes: zeros, where the record is refused.
-#[derive(Drop)]
+#[derive(Clone, Copy)]
 pub struct Configuration {
     pub answer: HostAnswer,
     pub bytes: [u8; CONFIGURATION_BYTES],

@@ -9,7 +9,7 @@ use device_words::bytes::{REQUEST_BYTES, RESPONSE_BYTES};
 
 // Done or 27, the ten bytes of the response, and the next state. A refusal has zeros for the response
 // and the state as it was.
-#[derive(Drop)]
+#[derive(Clone, Copy)]
 pub struct Carried {
     pub answer: HostAnswer,
     pub response: [u8; RESPONSE_BYTES],

@@ -15,7 +15,7 @@ use map_records::refusal;
 use map_records::words::{region_at, region_count};
 
 // What the host chooses. The region's size is the managed region's.
-#[derive(Drop)]
+#[derive(Clone, Copy)]
 pub struct DeviceValues {
     pub block_size: u64,
     pub addr: GuestAddress,
@@ -24,14 +24,14 @@ pub struct DeviceValues {
 }
 
 // What the map's check says, or that the values break SETUP's rules (13).
-#[derive(Drop)]
+#[derive(Clone, Copy)]
 pub enum SetUpAnswer {
     Checked(MapAnswer),
     Values,
 }
 
 // The answer, and the fresh device where it was set up: else a record of zeros.
-#[derive(Drop)]
+#[derive(Clone, Copy)]
 pub struct SetUp {
     pub answer: SetUpAnswer,
     pub device: MemoryDevice,

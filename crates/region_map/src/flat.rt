@@ -18,7 +18,7 @@ use map_records::view::{FlatRange, RANGES};
 use map_records::words::{count_of, put_count, put_range, range_at, region_at, region_count};
 
 // What a range carries of its region: the kind, and the memory start or port.
-#[derive(Drop)]
+#[derive(Clone, Copy)]
 pub struct Backing {
     pub kind: u64,
     pub base: u64,

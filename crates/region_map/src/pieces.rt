@@ -29,7 +29,7 @@ const PIECES: u64 = 256;
 const LAST: usize = 255;
 
 // The addresses from first up to end, which is not one of them, lead to a region from an offset on.
-#[derive(Drop)]
+#[derive(Clone, Copy)]
 pub struct Piece {
     pub first: GuestAddress,
     pub end: GuestAddress,
@@ -38,7 +38,7 @@ pub struct Piece {
 }
 
 // The addresses from first up to end, at which a region is seen from an offset on.
-#[derive(Drop)]
+#[derive(Clone, Copy)]
 pub struct AddressSpan {
     pub first: GuestAddress,
     pub end: GuestAddress,
@@ -173,7 +173,7 @@ fn is_taken(table: &[u64], i: usize, a: GuestAddress) -> bool
 }
 
 // The address that a walk over pieces came to, and its place.
-#[derive(Drop)]
+#[derive(Clone, Copy)]
 struct Skipped {
     at: usize,
     address: GuestAddress,

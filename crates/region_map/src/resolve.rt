@@ -9,14 +9,14 @@ use map_records::map::{GuestAddress, RegionOffset};
 use map_records::words::region_count;
 
 // What the tree answers at an address: nothing, or a region with the offset inside it.
-#[derive(Drop)]
+#[derive(Clone, Copy)]
 pub enum Resolved {
     Nothing,
     At(usize, RegionOffset),
 }
 
 // A refusal of the map, or what the tree answers.
-#[derive(Drop)]
+#[derive(Clone, Copy)]
 pub enum Resolution {
     Refused(MapAnswer),
     Answered(Resolved),

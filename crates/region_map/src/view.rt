@@ -12,7 +12,7 @@ use map_records::words::{VIEW_WORDS, copy_words};
 
 // What the map's check says, or that an accepted map has more than 256 ranges, or that the lent words are not
 // those of a view.
-#[derive(Drop)]
+#[derive(Clone, Copy)]
 pub enum FlatAnswer {
     Checked(MapAnswer),
     TooMany,

@@ -28,7 +28,7 @@ use map_records::words::{count_of, range_at};
 const ANY_BLOCK_SIZE: u64 = 4096;
 
 // A refusal's number, a memory place, or a port and the offset in its region.
-#[derive(Drop)]
+#[derive(Clone, Copy)]
 pub enum RouteAnswer {
     Refused(u64),
     Memory(u64),

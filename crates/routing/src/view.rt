@@ -12,7 +12,7 @@ use map_records::view::RANGES;
 use map_records::words::{count_of, range_at};
 
 // The region and the offset in it that an address leads to, or nothing, or 27.
-#[derive(Drop)]
+#[derive(Clone, Copy)]
 pub enum LookUp {
     At(usize, RegionOffset),
     Nothing,

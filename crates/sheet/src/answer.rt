@@ -9,7 +9,7 @@ use map_records::refusal;
 
 // A refusal of document 01 at a byte place, 1 to 5; or the sheet was read to its end, and this is what
 // the map's check says; or the lent words are not those of a map.
-#[derive(Drop)]
+#[derive(Clone, Copy)]
 pub enum SheetAnswer {
     Short(usize),
     Number(usize),
@@ -21,7 +21,7 @@ pub enum SheetAnswer {
 }
 
 // The next byte's place.
-#[derive(Drop)]
+#[derive(Clone, Copy)]
 pub struct Cursor {
     pub at: usize,
 }

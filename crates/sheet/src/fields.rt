@@ -11,7 +11,7 @@ use map_records::map::{Field, Region, has, is_kind};
 // The fields after the kind.
 const FIELDS: usize = 8;
 
-#[derive(Drop)]
+#[derive(Clone, Copy)]
 pub enum RegionRead {
     Whole(Region, Cursor),
     Refused(SheetAnswer),

@@ -6,7 +6,7 @@ ghost use Rattle.sheet.specs.Number.{read_by};
 use crate::answer::{Cursor, SheetAnswer};
 use map_records::numbers::wide;
 
-#[derive(Drop)]
+#[derive(Clone, Copy)]
 pub enum NumberRead {
     Value(u64, Cursor),
     Refused(SheetAnswer),

@@ -11,7 +11,7 @@ use crate::fields::{RegionRead, read_region};
 use map_records::words::put_region;
 
 // How far the reading went.
-#[derive(Drop)]
+#[derive(Clone, Copy)]
 pub enum Progress {
     Done(Cursor),
     Refused(SheetAnswer),

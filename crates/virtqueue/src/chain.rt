@@ -27,7 +27,7 @@ const INDIRECT: u64 = 4;
 const DESCRIPTOR_BYTES: usize = 16;
 
 // VIRTIO's descriptor: an element of a chain, with flags and the next entry's number.
-#[derive(Drop)]
+#[derive(Clone, Copy)]
 pub struct Descriptor {
     pub addr: GuestAddress,
     pub length: u64,
@@ -36,7 +36,7 @@ pub struct Descriptor {
 }
 
 // An entry of the table, or that a byte of it is not reachable.
-#[derive(Drop)]
+#[derive(Clone, Copy)]
 pub enum Fetched {
     Out,
     Here(Descriptor),
@@ -44,7 +44,7 @@ pub enum Fetched {
 
 // What the elements so far gave, beside the lent buffers: the number that ended the chain or 0, how many
 // bytes of the request and places for the response are there, and whether a writable element came.
-#[derive(Drop)]
+#[derive(Clone, Copy)]
 pub struct Gathered {
     pub stop: u8,
     pub readable: usize,

@@ -9,7 +9,7 @@ use map_records::refusal;
 
 // The queue's size and areas, the two free-running indices, and the stop: 0 for none, or document 01's
 // number. `next_available` is what document 01 calls seen, `next_used` its own count.
-#[derive(Drop)]
+#[derive(Clone, Copy)]
 pub struct SplitQueue {
     pub size: u16,
     pub descriptors: GuestAddress,
@@ -21,7 +21,7 @@ pub struct SplitQueue {
 }
 
 // Done, or the refusal 16 or 27 of document 01.
-#[derive(Drop)]
+#[derive(Clone, Copy)]
 pub enum QueueAnswer {
     Done,
     Queue,
@@ -29,7 +29,7 @@ pub enum QueueAnswer {
 }
 
 // The answer and the record: zeros where none was made, the one given where a reset is refused.
-#[derive(Drop)]
+#[derive(Clone, Copy)]
 pub struct QueueGiven {
     pub answer: QueueAnswer,
     pub queue: SplitQueue,

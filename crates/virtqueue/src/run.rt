@@ -17,7 +17,7 @@ use map_records::refusal;
 const STEPS: u64 = 256;
 
 // All steps were served, or the first that was not was idle or refused.
-#[derive(Drop)]
+#[derive(Clone, Copy)]
 pub enum RunEnd {
     AllDone,
     Idle,
@@ -25,7 +25,7 @@ pub enum RunEnd {
 }
 
 // How many steps were served, whether one of them notified, the end, and the queue's next state.
-#[derive(Drop)]
+#[derive(Clone, Copy)]
 pub struct Ran {
     pub served: u64,
     pub notified: bool,

@@ -12,7 +12,7 @@ use memory_device::device::{MemoryDevice, device_of, words_of};
 
 // A refusal's number (27, or the number that stops the queue), nothing to do, or a chain served, and
 // whether to notify the guest.
-#[derive(Drop)]
+#[derive(Clone, Copy)]
 pub enum StepOutcome {
     Refused(u8),
     Idle,
@@ -20,14 +20,14 @@ pub enum StepOutcome {
 }
 
 // The outcome, and the queue's next state, where the device was changed in its place.
-#[derive(Drop)]
+#[derive(Clone, Copy)]
 pub struct Moved {
     pub outcome: StepOutcome,
     pub queue: SplitQueue,
 }
 
 // The outcome, and the next state of the device and the queue.
-#[derive(Drop)]
+#[derive(Clone, Copy)]
 pub struct Stepped {
     pub outcome: StepOutcome,
     pub device: MemoryDevice,

@@ -16,7 +16,7 @@ use map_records::map::GuestAddress;
 use map_records::refusal;
 
 // What the available ring's flags and idx say: a stop, nothing offered, or whether to notify.
-#[derive(Drop)]
+#[derive(Clone, Copy)]
 pub enum AvailableNotices {
     Stop(u8),
     Idle,
@@ -24,7 +24,7 @@ pub enum AvailableNotices {
 }
 
 // The head of the next chain, or a stop.
-#[derive(Drop)]
+#[derive(Clone, Copy)]
 pub enum HeadEntry {
     Stop(u8),
     At(u64),
@@ -32,7 +32,7 @@ pub enum HeadEntry {
 
 // A stop, nothing to do, or a head and whether to notify; the request's bytes and the places for the
 // response are then in the lent buffers.
-#[derive(Drop)]
+#[derive(Clone, Copy)]
 pub enum TakenOffer {
     Stop(u8),
     Idle,

@@ -9,7 +9,7 @@ use crate::step::{StepOutcome, step};
 use memory_device::device::MemoryDevice;
 
 // The outcome, and the device's next state.
-#[derive(Drop)]
+#[derive(Clone, Copy)]
 pub struct Advanced {
     pub outcome: StepOutcome,
     pub device: MemoryDevice,

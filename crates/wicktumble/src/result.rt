@@ -11,7 +11,7 @@ use map_check::check::MapAnswer;
 pub const RESULT_WORDS: usize = 3;
 
 // The words that a call has not are 0.
-#[derive(Drop)]
+#[derive(Clone, Copy)]
 pub struct Said {
     pub number: u64,
     pub first: u64,

@@ -56,17 +56,17 @@ render_children_below t =
     render-children.Pre
 
 -- what the two members' calls ask and give below the measure t
-abbrev render_calls : ℕ → render-lts.Claims
+abbrev render_calls : ℕ → render_lts.Claims
 render_calls t = (region-at-reads.Asked, region-at-reads.Learnt, horizon-reads.Asked, horizon-reads.Learnt, least-reads.Asked, least-reads.Learnt, render_below t, render.Post, render_children_below t, render-children.Post)
 
-abbrev children_calls : ℕ → render-children-lts.Claims
+abbrev children_calls : ℕ → render_children_lts.Claims
 children_calls t = (next-child-reads.Asked, next-child-reads.Learnt, region-at-reads.Asked, region-at-reads.Learnt, fill-reads.Asked, fill-reads.Learnt, render_below t, render.Post, render_children_below t, render-children.Post)
 
 -- where a span and a region meet: the function's start, the region read, and what is known of both
 abbrev Meet : ℕ → Type 0
-Meet t = render-lts.Else1 (render_calls t) (render_at t) render.Post
+Meet t = render_lts.Else1 (render_calls t) (render_at t) render.Post
 
-abbrev start : (t : ℕ) → Meet t → render-lts.Start (render_calls t) (render_at t) render.Post
+abbrev start : (t : ℕ) → Meet t → render_lts.Start (render_calls t) (render_at t) render.Post
 start t c = c.before.before.before.before.before.before.before.before.before
 
 some : (t : ℕ) (c : Meet t) → ((start t c).args.at.first.0 < (start t c).args.at.end.0) × ((start t c).args.at.offset.0 < c.before.before.before.before.before.before.region_at_lem.result.size)
@@ -80,49 +80,49 @@ known t c =
     let x = c.before.before.before.before.before.before.region_at_lem in
     region_facts (map_of s.args.map.now) s.args.n x.result x.ensures s.pre.1.0.tree.walkable s.pre.1.0.below
 
-render_region_at_requires : (t : ℕ) → render-lts.Need-region-at-requires (render_calls t) (render_at t) render.Post
+render_region_at_requires : (t : ℕ) → render_lts.Need-region-at-requires (render_calls t) (render_at t) render.Post
 render_region_at_requires t c κs =
     let s = c.before.before.requires.1.0 in
     (s.tree.words, omega (arith, s.below, s.tree.walkable.count))
 
-render_returns : (t : ℕ) → render-lts.Need-returns (render_calls t) (render_at t) render.Post
+render_returns : (t : ℕ) → render_lts.Need-returns (render_calls t) (render_at t) render.Post
 render_returns t c =
     let s = c.before.before.before.before.before.before.before.before.before in
     let a = s.args in
     let x = c.before.before.before.before.before.before.region_at_lem in
     nothing_there (map_of a.map.now) a.n x.result x.ensures _ a.at.first.0 a.at.offset.0 a.at.end.0 s.requires.1.1.kept c.if1.true
 
-render_horizon_requires : (t : ℕ) → render-lts.Need-horizon-requires (render_calls t) (render_at t) render.Post
+render_horizon_requires : (t : ℕ) → render_lts.Need-horizon-requires (render_calls t) (render_at t) render.Post
 render_horizon_requires t c κs = c.before.before.before.before.before.before.before.before.before.before.requires.1.1.kept.size
 
-render_same_length : (t : ℕ) → render-lts.Need-same-length (render_calls t) (render_at t) render.Post
+render_same_length : (t : ℕ) → render_lts.Need-same-length (render_calls t) (render_at t) render.Post
 render_same_length t c = refl
 
-render_returns_2 : (t : ℕ) → render-lts.Need-returns-2 (render_calls t) (render_at t) render.Post
+render_returns_2 : (t : ℕ) → render_lts.Need-returns-2 (render_calls t) (render_at t) render.Post
 render_returns_2 t c =
     let s = c.before.before.before.before.before.before.before.before.before.before.before.before.before.before in
     let a = s.args in
     not_reached (walk (map_of a.map.now) a.n) _ a.at.first.0 a.at.offset.0 a.at.end.0 s.requires.1.1.kept (omega (arith, c.before.before.before.horizon.ensures, c.if2.true))
 
-render_sub_least : (t : ℕ) → render-lts.Need-overflow-sub-least (render_calls t) (render_at t) render.Post
+render_sub_least : (t : ℕ) → render_lts.Need-overflow-sub-least (render_calls t) (render_at t) render.Post
 render_sub_least t c = omega (arith, (some t c.before.before.before.before.before.before.before).0)
 
-render_sub_least_2 : (t : ℕ) → render-lts.Need-overflow-sub-least-2 (render_calls t) (render_at t) render.Post
+render_sub_least_2 : (t : ℕ) → render_lts.Need-overflow-sub-least-2 (render_calls t) (render_at t) render.Post
 render_sub_least_2 t c = omega (arith, (some t c.before.before.before.before.before.before.before.before).1)
 
-render_least_requires : (t : ℕ) → render-lts.Need-least-requires (render_calls t) (render_at t) render.Post
+render_least_requires : (t : ℕ) → render_lts.Need-least-requires (render_calls t) (render_at t) render.Post
 render_least_requires t c κs = tt
 
-render_add_t20 : (t : ℕ) → render-lts.Need-overflow-add-t20 (render_calls t) (render_at t) render.Post
+render_add_t20 : (t : ℕ) → render_lts.Need-overflow-add-t20 (render_calls t) (render_at t) render.Post
 render_add_t20 t c = omega (arith, (some t c.before.before.before.before.before.before.before.before.before.before).0, c.before.before.before.before.before.before.before.before.before.before.before.before.before.before.before.before.before.before.before.requires.1.1.to, c.before.least.ensures)
 
-render_add_t21 : (t : ℕ) → render-lts.Need-overflow-add-t21 (render_calls t) (render_at t) render.Post
+render_add_t21 : (t : ℕ) → render_lts.Need-overflow-add-t21 (render_calls t) (render_at t) render.Post
 render_add_t21 t c =
     let e = c.before.before.before.before.before.before.before.before.before.before.before.before.before.before in
     let f = known t e in
     omega (arith, (some t e).1, f.0, f.1)
 
-render_render_requires : (t : ℕ) → render-lts.Need-render-requires (render_calls t) (render_at t) render.Post
+render_render_requires : (t : ℕ) → render_lts.Need-render-requires (render_calls t) (render_at t) render.Post
 render_render_requires t c κs =
     let s = c.before.before.before.before.before.before.before.before.before.before.before.before.before.before.before.before.before.before.before.before.before.before.before.before in
     let e = c.before.before.before.before.before.before.before.before.before.before.before.before.before.before.before in
@@ -137,7 +137,7 @@ render_render_requires t c κs =
       ),
     )
 
-render_render_children_requires : (t : ℕ) → render-lts.Need-render-children-requires (render_calls t) (render_at t) render.Post
+render_render_children_requires : (t : ℕ) → render_lts.Need-render-children-requires (render_calls t) (render_at t) render.Post
 render_render_children_requires t c κs =
     let s = c.before.before.before.before.before.before.before.before.before.before.before.before.before.before.before.before.before.before.before.before.before.before in
     let e = c.before.before.before.before.before.before.before.before.before.before.before.before.before in
@@ -155,10 +155,10 @@ render_render_children_requires t c κs =
       ),
     )
 
-render_same_length_2 : (t : ℕ) → render-lts.Need-same-length-2 (render_calls t) (render_at t) render.Post
+render_same_length_2 : (t : ℕ) → render_lts.Need-same-length-2 (render_calls t) (render_at t) render.Post
 render_same_length_2 t c = behind_size c.before.before.before.before.before.before.before.before.before.before.before.before.before.before.before.before.before.before.before.before.before.before.before.before.before.before.before.requires.1.1.kept c.before.before.render.ensures
 
-render_returns_3 : (t : ℕ) → render-lts.Need-returns-3 (render_calls t) (render_at t) render.Post
+render_returns_3 : (t : ℕ) → render_lts.Need-returns-3 (render_calls t) (render_at t) render.Post
 render_returns_3 t c =
     let s = c.before.before.before.before.before.before.before.before.before.before.before.before.before.before.before.before.before.before.before.before.before.before.before.before.before.before.before in
     let a = s.args in
@@ -169,10 +169,10 @@ render_returns_3 t c =
     through_alias (map_of a.map.now) a.n x.result x.ensures a.at.first.0 a.at.offset.0 a.at.end.0 l.result l.ensures h.0 h.1
     s.requires.1.0.tree.walkable s.requires.1.0.below c.before.before.before.before.before.before.if3.true c.before.before.render.ensures
 
-render_same_length_3 : (t : ℕ) → render-lts.Need-same-length-3 (render_calls t) (render_at t) render.Post
+render_same_length_3 : (t : ℕ) → render_lts.Need-same-length-3 (render_calls t) (render_at t) render.Post
 render_same_length_3 t c = behind_size c.before.before.before.before.before.before.before.before.before.before.before.before.before.before.before.before.before.before.before.before.before.before.before.before.before.requires.1.1.kept c.before.before.render-children.ensures
 
-render_returns_4 : (t : ℕ) → render-lts.Need-returns-4 (render_calls t) (render_at t) render.Post
+render_returns_4 : (t : ℕ) → render_lts.Need-returns-4 (render_calls t) (render_at t) render.Post
 render_returns_4 t c =
     let s = c.before.before.before.before.before.before.before.before.before.before.before.before.before.before.before.before.before.before.before.before.before.before.before.before.before in
     let a = s.args in
@@ -183,44 +183,44 @@ render_returns_4 t c =
     through_children (map_of a.map.now) a.n x.result x.ensures a.at.first.0 a.at.offset.0 a.at.end.0 l.result l.ensures h.0 h.1
     c.before.before.before.before.if3.false c.before.before.render-children.ensures
 
-render_children_next_child_requires : (t : ℕ) → render-children-lts.Need-next-child-requires (children_calls t) (render_children_at t) render-children.Post
+render_children_next_child_requires : (t : ℕ) → render_children_lts.Need-next-child-requires (children_calls t) (render_children_at t) render-children.Post
 render_children_next_child_requires t c κs = c.before.before.requires.1.0
 
-render_children_region_at_requires : (t : ℕ) → render-children-lts.Need-region-at-requires (children_calls t) (render_children_at t) render-children.Post
+render_children_region_at_requires : (t : ℕ) → render_children_lts.Need-region-at-requires (children_calls t) (render_children_at t) render-children.Post
 render_children_region_at_requires t c κs =
     let s = c.before.before.before.before.requires.1.0.0 in
     (s.tree.words, omega (arith, s.below, s.tree.walkable.count))
 
-render_children_fill_requires : (t : ℕ) → render-children-lts.Need-fill-requires (children_calls t) (render_children_at t) render-children.Post
+render_children_fill_requires : (t : ℕ) → render_children_lts.Need-fill-requires (children_calls t) (render_children_at t) render-children.Post
 render_children_fill_requires t c κs =
     let s = c.before.before.before.before.before.before.before.before in
     (s.requires.1.1.0, omega (arith, s.requires.1.0.0.below, s.requires.1.0.0.tree.walkable.count))
 
-render_children_same_length : (t : ℕ) → render-children-lts.Need-same-length (children_calls t) (render_children_at t) render-children.Post
+render_children_same_length : (t : ℕ) → render_children_lts.Need-same-length (children_calls t) (render_children_at t) render-children.Post
 render_children_same_length t c = behind_size c.before.before.before.before.before.before.before.before.before.before.before.requires.1.1.0.kept c.before.before.fill.ensures
 
-render_children_returns : (t : ℕ) → render-children-lts.Need-returns (children_calls t) (render_children_at t) render-children.Post
+render_children_returns : (t : ℕ) → render_children_lts.Need-returns (children_calls t) (render_children_at t) render-children.Post
 render_children_returns t c =
     let a = c.before.before.before.before.before.before.before.before.before.before.before.args in
     let x = c.before.before.before.before.before.before.region_at_lem in
     the_node (map_of a.map.now) a.n a.below _ a.at.first.0 a.at.offset.0 a.at.end.0 c.before.before.before.before.before.before.before.before.next-child.ensures x.result x.ensures c.before.before.before.before.before.before.before.if1.true c.before.before.before.before.if2.true c.before.before.fill.ensures
 
-render_children_returns_2 : (t : ℕ) → render-children-lts.Need-returns-2 (children_calls t) (render_children_at t) render-children.Post
+render_children_returns_2 : (t : ℕ) → render_children_lts.Need-returns-2 (children_calls t) (render_children_at t) render-children.Post
 render_children_returns_2 t c =
     let s = c.before.before.before.before.before.before.before in
     let a = s.args in
     let x = c.before.before.region_at_lem in
     no_node (map_of a.map.now) a.n a.below _ a.at.first.0 a.at.offset.0 a.at.end.0 c.before.before.before.before.next-child.ensures _ x.result x.ensures s.requires.1.1.0.kept c.before.before.before.if1.true c.if2.false
 
-render_children_sub_left : (t : ℕ) → render-children-lts.Need-overflow-sub-left (children_calls t) (render_children_at t) render-children.Post
+render_children_sub_left : (t : ℕ) → render_children_lts.Need-overflow-sub-left (children_calls t) (render_children_at t) render-children.Post
 render_children_sub_left t c = omega (arith, c.if1.false)
 
-render_children_region_at_requires_2 : (t : ℕ) → render-children-lts.Need-region-at-requires-2 (children_calls t) (render_children_at t) render-children.Post
+render_children_region_at_requires_2 : (t : ℕ) → render_children_lts.Need-region-at-requires-2 (children_calls t) (render_children_at t) render-children.Post
 render_children_region_at_requires_2 t c κs = (c.before.before.before.before.requires.1.0.0.tree.words, omega arith)
 
 -- the next child, once there is one
 abbrev Child : ℕ → Type 0
-Child t = render-children-lts.Else1 (children_calls t) (render_children_at t) render-children.Post
+Child t = render_children_lts.Else1 (children_calls t) (render_children_at t) render-children.Post
 
 child : (t : ℕ) (c : Child t) → ranked priority_of (map_of c.before.before.before.before.args.map.now) c.before.before.before.before.args.n (c.before.next-child.result - 1) ≡ true
 child t c =
@@ -232,25 +232,25 @@ child_of t c =
     let a = c.before.before.before.before.args in
     child_below (map_of a.map.now) a.n _ (child t c)
 
-render_children_render_requires : (t : ℕ) → render-children-lts.Need-render-requires (children_calls t) (render_children_at t) render-children.Post
+render_children_render_requires : (t : ℕ) → render_children_lts.Need-render-requires (children_calls t) (render_children_at t) render-children.Post
 render_children_render_requires t c κs =
     let s = c.before.before.before.before.before.before.before.before.before.before.before in
     let low = child_of t c.before.before.before.before.before.before.before in
     let w = s.requires.1.1.0 in
     (omega (arith, low, s.requires.0), (record { tree = s.requires.1.0.0.tree; below = omega (arith, low, s.requires.1.0.0.below) }, record { kept = w.kept; from = w.from; to = w.to; offset = omega (arith, w.offset) }))
 
-render_children_sub_ahead : (t : ℕ) → render-children-lts.Need-overflow-sub-ahead (children_calls t) (render_children_at t) render-children.Post
+render_children_sub_ahead : (t : ℕ) → render_children_lts.Need-overflow-sub-ahead (children_calls t) (render_children_at t) render-children.Post
 render_children_sub_ahead t c = omega (arith, c.before.if3.false)
 
-render_children_sub_if4 : (t : ℕ) → render-children-lts.Need-overflow-sub-if4 (children_calls t) (render_children_at t) render-children.Post
+render_children_sub_if4 : (t : ℕ) → render_children_lts.Need-overflow-sub-if4 (children_calls t) (render_children_at t) render-children.Post
 render_children_sub_if4 t c = c.before.before.before.before.before.before.before.before.before.before.before.requires.1.1.1
 
-render_children_add_t30 : (t : ℕ) → render-children-lts.Need-overflow-add-t30 (children_calls t) (render_children_at t) render-children.Post
+render_children_add_t30 : (t : ℕ) → render_children_lts.Need-overflow-add-t30 (children_calls t) (render_children_at t) render-children.Post
 render_children_add_t30 t c =
     let s = c.before.before.before.before.before.before.before.before.before.before.before.before.before in
     omega (arith, c.before.if4.true, s.requires.1.1.1, s.requires.1.1.0.to)
 
-render_children_render_requires_2 : (t : ℕ) → render-children-lts.Need-render-requires-2 (children_calls t) (render_children_at t) render-children.Post
+render_children_render_requires_2 : (t : ℕ) → render_children_lts.Need-render-requires-2 (children_calls t) (render_children_at t) render-children.Post
 render_children_render_requires_2 t c κs =
     let s = c.before.before.before.before.before.before.before.before.before.before.before.before.before.before in
     let low = child_of t c.before.before.before.before.before.before.before.before.before.before in
@@ -258,7 +258,7 @@ render_children_render_requires_2 t c κs =
     (omega (arith, low, s.requires.0), (record { tree = s.requires.1.0.0.tree; below = omega (arith, low, s.requires.1.0.0.below) }, record { kept = w.kept; from = omega (arith, w.from); to = w.to; offset = omega arith }))
 
 -- after the next child, whichever way: what it answers stands behind the table
-put : (t : ℕ) (c : render-children-lts.Joined3 (children_calls t) (render_children_at t) render-children.Post)
+put : (t : ℕ) (c : render_children_lts.Joined3 (children_calls t) (render_children_at t) render-children.Post)
     → let a = c.before.before.before.before.before.before.before.before.args in
     Behind a.table.now
     (in_span (answer_in (map_of a.map.now) a.n (c.before.before.before.before.before.next-child.result - 1)) a.at.first.0 a.at.offset.0 a.at.end.0)
@@ -276,7 +276,7 @@ put t c =
     (λ w. behind_at w.5 (child_beyond m a.n _ x.result x.ensures a.at.first.0 a.at.offset.0 a.at.end.0 k _ s.requires.1.1.0.kept w.0.left w.4.left)))
     c.if3.branch
 
-render_children_render_children_requires : (t : ℕ) → render-children-lts.Need-render-children-requires (children_calls t) (render_children_at t) render-children.Post
+render_children_render_children_requires : (t : ℕ) → render_children_lts.Need-render-children-requires (children_calls t) (render_children_at t) render-children.Post
 render_children_render_children_requires t c κs =
     let s = c.before.before.before.before.before.before.before.before.before in
     let next = c.before.before.before.before.before.before.next-child.ensures in
@@ -284,16 +284,16 @@ render_children_render_children_requires t c κs =
     let w = s.requires.1.1 in
     (omega (arith, s.requires.0, next.within, c.before.before.before.before.before.if1.false), ((s.requires.1.0.0, omega (arith, next.within, s.requires.1.0.1)), (record { kept = b.kept; from = omega (arith, b.start, w.0.from); to = w.0.to; offset = w.0.offset }, w.1, w.2)))
 
-render_children_same_length_2 : (t : ℕ) → render-children-lts.Need-same-length-2 (children_calls t) (render_children_at t) render-children.Post
+render_children_same_length_2 : (t : ℕ) → render_children_lts.Need-same-length-2 (children_calls t) (render_children_at t) render-children.Post
 render_children_same_length_2 t c = behind_size (put t c.before.before.before.before).kept c.before.before.render-children.ensures ∙ behind_size c.before.before.before.before.before.before.before.before.before.before.before.before.requires.1.1.0.kept (put t c.before.before.before.before)
 
-render_children_returns_3 : (t : ℕ) → render-children-lts.Need-returns-3 (children_calls t) (render_children_at t) render-children.Post
+render_children_returns_3 : (t : ℕ) → render_children_lts.Need-returns-3 (children_calls t) (render_children_at t) render-children.Post
 render_children_returns_3 t c =
     let a = c.before.before.before.before.before.before.before.before.before.before.before.before.args in
     child_then (map_of a.map.now) a.n a.below _ a.at.first.0 a.at.offset.0 a.at.end.0 c.before.before.before.before.before.before.before.before.before.next-child.ensures c.before.before.before.before.before.before.before.before.if1.false (put t c.before.before.before.before) c.before.before.render-children.ensures
 
 pub +render_render_children_spec : {M : Type 1} → statement M
-+render_render_children_spec = close μ-render μ-render-children (λ t. render-lts.spec (render_calls t)
++render_render_children_spec = close μ-render μ-render-children (λ t. render_lts.spec (render_calls t)
     (render_at t)
     render.Post
     (render_region_at_requires t)
@@ -312,7 +312,7 @@ pub +render_render_children_spec : {M : Type 1} → statement M
     (render_returns_3 t)
     (render_same_length_3 t)
     (render_returns_4 t))
-    λ t. render-children-lts.spec (children_calls t)
+    λ t. render_children_lts.spec (children_calls t)
     (render_children_at t)
     render-children.Post
     (render_children_next_child_requires t)
