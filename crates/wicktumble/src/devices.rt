@@ -46,8 +46,7 @@ fn put_fresh(device: &mut [u64], answer: SetUpAnswer, fresh: MemoryDevice)
 
 // The call sets a fresh device up from a map. It refuses with 3, 4, 6 to 11 (the result has the two
 // regions), 13 and 27.
-#[unsafe(no_mangle)]
-pub extern "C" fn wt_set_up(
+pub fn wt_set_up(
     map: &[u64],
     memory_length: u64,
     block_size: u64,
@@ -77,40 +76,35 @@ pub extern "C" fn wt_set_up(
 }
 
 // The call sets the size that the host requests of the guest. It refuses with 14 and 27.
-#[unsafe(no_mangle)]
-pub extern "C" fn wt_set_requested_size(device: &mut [u64], size: u64) -> u64
+pub fn wt_set_requested_size(device: &mut [u64], size: u64) -> u64
     ensures { ReturnsWords (resize_call device.old size) result device.new }
 {
     device::number_of(calls::set_requested_size(device, size))
 }
 
 // The call pins a plugged block. It refuses with 15 and 27.
-#[unsafe(no_mangle)]
-pub extern "C" fn wt_pin(device: &mut [u64], block: u64) -> u64
+pub fn wt_pin(device: &mut [u64], block: u64) -> u64
     ensures { ReturnsWords (pin_call device.old block) result device.new }
 {
     device::number_of(calls::pin(device, block))
 }
 
 // The call takes the pin from a block. It refuses with 15 and 27.
-#[unsafe(no_mangle)]
-pub extern "C" fn wt_unpin(device: &mut [u64], block: u64) -> u64
+pub fn wt_unpin(device: &mut [u64], block: u64) -> u64
     ensures { ReturnsWords (unpin_call device.old block) result device.new }
 {
     device::number_of(calls::unpin(device, block))
 }
 
 // The call gives the device its fresh state back. It refuses with 27.
-#[unsafe(no_mangle)]
-pub extern "C" fn wt_system_reset(device: &mut [u64]) -> u64
+pub fn wt_system_reset(device: &mut [u64]) -> u64
     ensures { ReturnsWords (reset_call device.old) result device.new }
 {
     device::number_of(calls::system_reset(device))
 }
 
 // The call writes the 56 bytes of configuration that the guest reads. It refuses with 27.
-#[unsafe(no_mangle)]
-pub extern "C" fn wt_configuration(device: &[u64], bytes: &mut [u8]) -> u64
+pub fn wt_configuration(device: &[u64], bytes: &mut [u8]) -> u64
     ensures { ReturnsWords (configuration_call device.now bytes.old) result bytes.new }
 {
     device::number_of(calls::configuration(device, bytes))
@@ -128,8 +122,7 @@ fn request_bytes(bytes: &[u8]) -> [u8; REQUEST_BYTES]
 
 // The call carries out one request of the guest without a queue: 24 bytes, and ten for the response.
 // It refuses with 27.
-#[unsafe(no_mangle)]
-pub extern "C" fn wt_request(device: &mut [u64], request: &[u8], response: &mut [u8]) -> u64
+pub fn wt_request(device: &mut [u64], request: &[u8], response: &mut [u8]) -> u64
     ensures { ReturnsRequest (request_call device.old request.now response.old)
         result device.new response.new }
 {
@@ -152,8 +145,7 @@ fn say_block(found: ByteBlock) -> Said
 
 // The call finds the block in which a byte lies, by its offset in the device's region. The result has 1
 // and the block, or zeros for a byte outside the region. The call refuses with 27.
-#[unsafe(no_mangle)]
-pub extern "C" fn wt_block_of_byte(device: &[u64], offset: u64, res: &mut [u64]) -> u64
+pub fn wt_block_of_byte(device: &[u64], offset: u64, res: &mut [u64]) -> u64
     ensures { Returns (block_call device.now offset res.old) result res.new }
 {
     if (device.len() == DEVICE_WORDS) & (res.len() == RESULT_WORDS) {

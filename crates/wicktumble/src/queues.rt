@@ -35,8 +35,7 @@ fn put_given(queue: &mut [u64], given: QueueGiven) -> u64
 }
 
 // The call makes a queue of a size and three areas, with its counts at 0. It refuses with 16 and 27.
-#[unsafe(no_mangle)]
-pub extern "C" fn wt_make_queue(
+pub fn wt_make_queue(
     size: u64,
     descriptors: u64,
     available: u64,
@@ -62,8 +61,7 @@ pub extern "C" fn wt_make_queue(
 }
 
 // The call resets a queue: its counts are 0 then, and no stop is left. It refuses with 27.
-#[unsafe(no_mangle)]
-pub extern "C" fn wt_reset_queue(queue: &mut [u64]) -> u64
+pub fn wt_reset_queue(queue: &mut [u64]) -> u64
     ensures { ReturnsWords (reset_queue_call queue.old) result queue.new }
 {
     if queue_fits(queue) {
@@ -100,8 +98,7 @@ fn say_step(outcome: StepOutcome) -> Said
 // A step takes a chain from the queue, carries its request out and returns it. The result has 1 where a
 // chain was served (0: none was offered), and 1 where the guest is to be notified. The call refuses with
 // 17 to 22, by which the queue is stopped, and 27.
-#[unsafe(no_mangle)]
-pub extern "C" fn wt_step(
+pub fn wt_step(
     view: &[u64],
     device: &mut [u64],
     queue: &mut [u64],
@@ -135,8 +132,7 @@ fn say_run(served: u64, notified: bool, end: RunEnd) -> Said
 // A run takes up to k steps, at most 256, to the first that is idle or refused. The result has the
 // chains served, 1 where the guest is to be notified, and 1 where the end was idle. The call refuses
 // with 17 to 22 (the served steps stay and are counted, and the queue is stopped) and 27.
-#[unsafe(no_mangle)]
-pub extern "C" fn wt_run(
+pub fn wt_run(
     view: &[u64],
     device: &mut [u64],
     queue: &mut [u64],

@@ -45,8 +45,7 @@ fn route_by(
 
 // The call routes one access of a width in bytes; a device of no words is none. The result has 1 and the
 // place in memory, or 2, the port and the offset in its region. The call refuses with 23 to 26 and 27.
-#[unsafe(no_mangle)]
-pub extern "C" fn wt_route(
+pub fn wt_route(
     view: &[u64],
     memory_length: u64,
     device: &[u64],
@@ -67,8 +66,7 @@ pub extern "C" fn wt_route(
 
 // The call routes many accesses, for which view and device are judged once: two words each, and for each
 // answer four, the number and the result of `wt_route`. It refuses with 27, and then writes no answer.
-#[unsafe(no_mangle)]
-pub extern "C" fn wt_route_all(
+pub fn wt_route_all(
     view: &[u64],
     memory_length: u64,
     device: &[u64],
@@ -76,8 +74,8 @@ pub extern "C" fn wt_route_all(
     answers: &mut [u64], // a number and a result each
 ) -> u64
     ensures { RoutesAll
-        (route_all_call view.now memory_length device.now accesses.now answers.entry.now)
-        result answers.exit.now }
+        (route_all_call view.now memory_length device.now accesses.now answers.old)
+        result answers.new }
 {
     if device.len() == 0 {
         return route::route_all_without_device(view, memory_length, accesses, answers);
@@ -97,8 +95,7 @@ fn say_look_up(found: LookUp) -> Said
 
 // The call says what a view gives an address, with the result of `wt_walk`. It refuses with 27, which
 // judges no device's region here.
-#[unsafe(no_mangle)]
-pub extern "C" fn wt_look_up(view: &[u64], memory_length: u64, address: u64, res: &mut [u64]) -> u64
+pub fn wt_look_up(view: &[u64], memory_length: u64, address: u64, res: &mut [u64]) -> u64
     ensures { Returns (look_up_call view.now memory_length address res.old) result res.new }
 {
     if (view.len() == VIEW_WORDS) & (res.len() == RESULT_WORDS) {
