@@ -3,7 +3,7 @@ use Rattle.std.specs.Prelude.{Bool, true, false, ◌&&◌, ◌||◌, List, ◌�
 use Rattle.map_records.specs.Limits.{limit}
 use Rattle.device_words.specs.Table.{most_blocks, bit_at, only, implies}
 use Rattle.device_words.specs.Bytes.{response_bytes}
-use Rattle.device_words.specs.Device.{MemoryDevice, smallest_block, largest_block, is_pinned, sizes_of, with_pins, with_pin}
+use Rattle.device_words.specs.Device.{MemoryDevice, smallest_block, largest_block, is_pinned, with_pins, with_pin}
 use Rattle.device_words.specs.Request.{request_of, unplug_type, unplug_all_type, state_type, in_range, asked_from, asked_count, type_of, state_of, nothing_further, answered_by, table_by, carried_out}
 use Rattle.device_words.specs.Words.{device_at, device_of, device_words, device_length}
 use Rattle.device_words.specs.declared.words.Sizes.{Sizes}

@@ -1,5 +1,7 @@
 // The memory device where it lies: words that a caller lends. Inner functions, which rely on what
 // their callers show; no entry point is here, and nothing of it is exported to hosts.
+#![tactic(auto)]
+
 pub mod answer;
 pub mod block;
 pub mod bytes;

@@ -15,11 +15,11 @@ use Rattle.device_words.specs.declared.request.Response.TheVariants.{Ack, Nack, 
 use Rattle.device_words.proofs.TableLaws.{table_bit, zero_bit}
 use Rattle.memory_device.specs.Host.{host_refusal, done, if_ok, size_fault, with_requested, resized, pin_fault, pin_block, unpin_block, system_reset}
 use Rattle.memory_device.specs.Request.{carried_into, carried}
-use Rattle.memory_device.specs.Calls.{Call, request, resize, pin, unpin, reset, called, afterAck, ledgerAfter, after, ledger}
+use Rattle.memory_device.specs.Calls.{Call, request, resize, pin, unpin, reset, called, after_ack, ledger_after, after, ledger}
 use Rattle.memory_device.proofs.Kept.{reset_kept, pin_kept, unpin_kept, resize_kept, carry_kept}
 
 -- the table after an acknowledged request, block by block
-acknowledged_bit : (d : MemoryDevice) (r : Request) (had : ℕ → Bool) (b : ℕ) → b < 1024 → bit_at d.plugged b ≡ had b → bit_at (table_after_ack (sizes_of d) d.plugged r) b ≡ afterAck d r had b
+acknowledged_bit : (d : MemoryDevice) (r : Request) (had : ℕ → Bool) (b : ℕ) → b < 1024 → bit_at d.plugged b ≡ had b → bit_at (table_after_ack (sizes_of d) d.plugged r) b ≡ after_ack d r had b
 acknowledged_bit d r had b l e = go (eqb r.kind 0) (eqb r.kind 1) (eqb r.kind 2)
   where
     run : Bool → ℕ → Bool
@@ -46,7 +46,7 @@ is_state Plugged = true
 is_state Unplugged = true
 is_state Mixed = true
 
-state_takes_none : (d : MemoryDevice) (r : Request) (had : ℕ → Bool) (b : ℕ) → is_state (answered d r) ≡ true → afterAck d r had b ≡ had b
+state_takes_none : (d : MemoryDevice) (r : Request) (had : ℕ → Bool) (b : ℕ) → is_state (answered d r) ≡ true → after_ack d r had b ≡ had b
 unfolding answered_by
 state_takes_none d r had b h = go (eqb r.kind 0) (eqb r.kind 1) (eqb r.kind 2) h
   where
@@ -80,8 +80,8 @@ module _ (d : MemoryDevice) (had : ℕ → Bool) (b : ℕ) (l : b < 1024) (e : b
       go false z = e
 
   -- by the answer: a STATE's is an ACK too, and takes no block in or out
-  answer_bit : (r : Request) (x : Response) → (is_state x ≡ true → afterAck d r had b ≡ had b)
-      → bit_at (changed_by d r x).plugged b ≡ cond (eqb (le_number (response_bytes (type_of x) (state_of x)) 0 2) 0) (afterAck d r had b) (had b)
+  answer_bit : (r : Request) (x : Response) → (is_state x ≡ true → after_ack d r had b ≡ had b)
+      → bit_at (changed_by d r x).plugged b ≡ cond (eqb (le_number (response_bytes (type_of x) (state_of x)) 0 2) 0) (after_ack d r had b) (had b)
   unfolding table_by number_by response_bytes le
   answer_bit r Ack f = acknowledged_bit d r had b l e
   answer_bit r Nack f = e
@@ -91,15 +91,15 @@ module _ (d : MemoryDevice) (had : ℕ → Bool) (b : ℕ) (l : b < 1024) (e : b
   answer_bit r Unplugged f = e ∙ sym (f refl)
   answer_bit r Mixed f = e ∙ sym (f refl)
 
-  step_request : (s : List ℕ) → bit_at (carried d s).device.plugged b ≡ ledgerAfter d had (request s) b
+  step_request : (s : List ℕ) → bit_at (carried d s).device.plugged b ≡ ledger_after d had (request s) b
   unfolding carried_into
   step_request s = go (device_ok d) refl
     where
-      go : (x : Bool) → device_ok d ≡ x → bit_at (carried d s).device.plugged b ≡ ledgerAfter d had (request s) b
+      go : (x : Bool) → device_ok d ≡ x → bit_at (carried d s).device.plugged b ≡ ledger_after d had (request s) b
       go true h = rw h (answer_bit (request_of s) (answered d (request_of s)) (state_takes_none d (request_of s) had b))
       go false h = rw h e
 
-  step_reset : bit_at (system_reset d).device.plugged b ≡ ledgerAfter d had reset b
+  step_reset : bit_at (system_reset d).device.plugged b ≡ ledger_after d had reset b
   unfolding system_reset
   step_reset = go (device_ok d) refl
     where
@@ -107,7 +107,7 @@ module _ (d : MemoryDevice) (had : ℕ → Bool) (b : ℕ) (l : b < 1024) (e : b
       go true h = rw h (zero_bit b)
       go false h = rw h e
 
-  step : (c : Call) → bit_at (called d c).plugged b ≡ ledgerAfter d had c b
+  step : (c : Call) → bit_at (called d c).plugged b ≡ ledger_after d had c b
   unfolding resized pin_block unpin_block
   step (request s) = step_request s
   step (resize n) = kept (size_fault d n) 14 (with_requested d n) e
@@ -119,7 +119,7 @@ module _ (d : MemoryDevice) (had : ℕ → Bool) (b : ℕ) (l : b < 1024) (e : b
 pub plugged_is : (d : MemoryDevice) (had : ℕ → Bool) (cs : List Call) → ((b : ℕ) → b < 1024 → bit_at d.plugged b ≡ had b) → (b : ℕ) → b < 1024 → bit_at (after d cs).plugged b ≡ ledger d had cs b
 unfolding after ledger
 plugged_is d had [] h b l = h b l
-plugged_is d had (c ∷ cs) h b l = plugged_is (called d c) (ledgerAfter d had c) cs (λ a m. step d had a m (h a m) c) b l
+plugged_is d had (c ∷ cs) h b l = plugged_is (called d c) (ledger_after d had c) cs (λ a m. step d had a m (h a m) c) b l
 
 -- and the record stays valid
 valid_after : (d : MemoryDevice) (c : Call) → device_ok d ≡ true → device_ok (called d c) ≡ true

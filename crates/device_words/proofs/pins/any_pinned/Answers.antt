@@ -1,0 +1,9 @@
+-- `device_words::pins::any_pinned` meets its contract. Assumes nothing.
+use mathlib.Core.Path.{ap, ◌∙◌}
+use mathlib.Core.Bool.{not}
+use Rattle.device_words.specs.Words.{device_at}
+use Rattle.device_words.proofs.WordLaws.{held_any}
+use Rattle.device_words.proofs.pins.any_pinned.Goals as goal
+
+pub returns : goal.returns
+returns c = let a = c.args in ap not c.none_set.ensures ∙ held_any (device_at a.device.now).pinned a.from.0 a.n

@@ -1,0 +1,7 @@
+-- `device_words::request::request_of` meets its contract. Assumes nothing.
+use native.Mathlib.Omega.{arith}
+use Rattle.device_words.proofs.request.request_of.Goals as goal
+
+pub returns : goal.returns
+returns c =
+    (rw (c.number_at-kind.ensures.0, c.number_at-addr.ensures.0, c.number_at-blocks.ensures.0), omega (arith, c.number_at-blocks.ensures.1))
