@@ -2,23 +2,26 @@
 use Rattle.device_words.proofs.RuleLaws.{power_bounds}
 use Rattle.device_words.specs.Device.{block_ok, setup_ok}
 use native.Mathlib.Omega.{arith}
-use Prim.Native.Nat.{◌^◌, ◌≤◌}
+use Prim.Native.Nat.{ℕ, ◌^◌, ◌≤◌}
 use mathlib.Core.Bool.{true}
 use mathlib.Core.Path.{◌≡◌, sym, ◌∙◌}
 use Rattle.device_words.proofs.rules.setup_ok.Goals as goal
 
+bounds : (b : ℕ) → block_ok b ≡ true → (4096 ≤ b) × (b ≤ 2 ^ 30)
+bounds b = power_bounds b 19 (omega arith)
+
 pub region_ok-requires : goal.region_ok-requires
-region_ok-requires c = omega (arith, (let it : (4096 ≤ c.args.block) × (c.args.block ≤ 2 ^ 30) = power_bounds _ 19 (omega arith) (let it : block_ok c.args.block ≡ true = sym c.block_ok.ensures ∙ c.if-block_ok.true in it) in it))
+region_ok-requires c = omega (arith, bounds c.args.block (sym c.block_ok.ensures ∙ c.if-block_ok.true))
 
 pub addr_ok-requires : goal.addr_ok-requires
-addr_ok-requires c = omega (arith, (let it : (4096 ≤ c.args.block) × (c.args.block ≤ 2 ^ 30) = power_bounds _ 19 (omega arith) (let it : block_ok c.args.block ≡ true = sym c.block_ok.ensures ∙ c.if-block_ok.true in it) in it))
+addr_ok-requires c = omega (arith, bounds c.args.block (sym c.block_ok.ensures ∙ c.if-block_ok.true))
 
 pub sizes_ok-requires : goal.sizes_ok-requires
-sizes_ok-requires c = omega (arith, (let it : (4096 ≤ c.args.block) × (c.args.block ≤ 2 ^ 30) = power_bounds _ 19 (omega arith) (let it : block_ok c.args.block ≡ true = sym c.block_ok.ensures ∙ c.if-block_ok.true in it) in it))
+sizes_ok-requires c = omega (arith, bounds c.args.block (sym c.block_ok.ensures ∙ c.if-block_ok.true))
 
 pub returns-then-block_ok : goal.returns-then-block_ok
 unfolding setup_ok
-returns-then-block_ok c = rw ((let it : block_ok c.args.block ≡ true = sym c.block_ok.ensures ∙ c.if-block_ok.true in it), c.region_ok.ensures, c.addr_ok.ensures, c.sizes_ok.ensures)
+returns-then-block_ok c = rw (sym c.block_ok.ensures ∙ c.if-block_ok.true, c.region_ok.ensures, c.addr_ok.ensures, c.sizes_ok.ensures)
 
 pub returns : goal.returns
 unfolding setup_ok

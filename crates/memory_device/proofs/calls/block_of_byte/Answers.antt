@@ -1,10 +1,8 @@
 -- `memory_device::calls::block_of_byte` meets its contract. Assumes nothing.
-use mathlib.Core.Path.{◌≡◌, ap, ◌∙◌}
-use mathlib.Core.Bool.{true}
+use mathlib.Core.Path.{ap, ◌∙◌}
 use Prim.Native.Nat.{ℕ, ◌/◌, ◌<◌}
 use native.Mathlib.Omega.{arith}
 use borrow.Author.Tests.{lt-ltb, le-ltb}
-use Rattle.device_words.specs.Device.{device_ok}
 use Rattle.device_words.specs.Words.{device_of}
 use Rattle.device_words.proofs.DeviceWords.{ok_length, ok_device, not_device}
 use Rattle.device_words.proofs.RuleLaws.{device_valid, blocks_bound}
@@ -20,7 +18,7 @@ region_size-region-requires c = ok_length c.args.device.now _ c.device_ok.ensure
 pub block_of-requires : goal.block_of-requires
 block_of-requires c = let a = c.args in
     let d = device_of a.device.now in
-    let v = device_valid d (let it : device_ok (device_of c.args.device.now) ≡ true = ok_device c.args.device.now _ c.device_ok.ensures c.if-device_ok.true in it) in
+    let v = device_valid d (ok_device c.args.device.now _ c.device_ok.ensures c.if-device_ok.true) in
     let some : 0 < d.block_size = omega (arith, v.least) in
     rw c.block_size-block.ensures
     (some, omega (arith, blocks_bound d.block_size a.offset.0 1024 some (omega (arith, v.blocks, c.if-offset-region.true, c.region_size-region.ensures))))
@@ -29,14 +27,14 @@ pub returns-then-offset-region : goal.returns-then-offset-region
 unfolding byte_block
 returns-then-offset-region c = let a = c.args in
     let d = device_of a.device.now in
-    rw ((let it : device_ok (device_of c.args.device.now) ≡ true = ok_device c.args.device.now _ c.device_ok.ensures c.if-device_ok.true in it), lt-ltb a.offset.0 d.region_size (omega (arith, c.if-offset-region.true, c.region_size-region.ensures)))
+    rw (ok_device c.args.device.now _ c.device_ok.ensures c.if-device_ok.true, lt-ltb a.offset.0 d.region_size (omega (arith, c.if-offset-region.true, c.region_size-region.ensures)))
     (ap block (c.block_of.ensures ∙ ap (λ (x : ℕ). a.offset.0 / x) c.block_size-block.ensures))
 
 pub returns-then-device_ok : goal.returns-then-device_ok
 unfolding byte_block
 returns-then-device_ok c = let a = c.args in
     let d = device_of a.device.now in
-    rw ((let it : device_ok (device_of c.args.device.now) ≡ true = ok_device c.args.device.now _ c.device_ok.ensures c.if-device_ok.true in it), le-ltb a.offset.0 d.region_size (omega (arith, c.if-offset-region.false, c.region_size-region.ensures)))
+    rw (ok_device c.args.device.now _ c.device_ok.ensures c.if-device_ok.true, le-ltb a.offset.0 d.region_size (omega (arith, c.if-offset-region.false, c.region_size-region.ensures)))
 
 pub returns : goal.returns
 unfolding byte_block

@@ -16,14 +16,22 @@ abbrev with_device : Reply → MemoryDevice → HostOutcome
 with_device r d = record { reply = r; device = d }
 
 pub managed_size-region-requires : goal.managed_size-region-requires
-managed_size-region-requires c = record { words = accepted_words _ _ (let it : Accepted (map_of c.args.map.now) c.args.memory_length = is_accepted _ _ _ c.check_map-answer.ensures (sym c.accepts.ensures ∙ c.if-accepts.true) in it); few = (accepted_sound _ _ (let it : Accepted (map_of c.args.map.now) c.args.memory_length = is_accepted _ _ _ c.check_map-answer.ensures (sym c.accepts.ensures ∙ c.if-accepts.true) in it)).count }
+managed_size-region-requires c = let a = c.args in
+    let ok : Accepted (map_of a.map.now) a.memory_length = is_accepted _ _ _ c.check_map-answer.ensures (sym c.accepts.ensures ∙ c.if-accepts.true) in
+    record { words = accepted_words _ _ ok; few = (accepted_sound _ _ ok).count }
 
 pub returns-then-setup_ok : goal.returns-then-setup_ok
-returns-then-setup_ok c = let passed = passed_reply (reply c.check_map-answer.result) (sym c.accepts.ensures ∙ c.if-accepts.true) in
-    rw (passed, c.managed_size-region.ensures) (set_up_done _ _ _ (let it : Accepted (map_of c.args.map.now) c.args.memory_length = is_accepted _ _ _ c.check_map-answer.ensures (sym c.accepts.ensures ∙ c.if-accepts.true) in it) (sym (let it : let a = c.args in c.setup_ok.result ≡ setup_ok a.values.block_size a.values.addr.0 (region_size (map_of a.map.now)) a.values.usable_size a.values.requested_size = rw (← c.managed_size-region.ensures) c.setup_ok.ensures in it) ∙ c.if-setup_ok.true))
+returns-then-setup_ok c = let a = c.args in
+    let ok : Accepted (map_of a.map.now) a.memory_length = is_accepted _ _ _ c.check_map-answer.ensures (sym c.accepts.ensures ∙ c.if-accepts.true) in
+    let ruled : c.setup_ok.result ≡ setup_ok a.values.block_size a.values.addr.0 (region_size (map_of a.map.now)) a.values.usable_size a.values.requested_size = rw (← c.managed_size-region.ensures) c.setup_ok.ensures in
+    let passed = passed_reply (reply c.check_map-answer.result) (sym c.accepts.ensures ∙ c.if-accepts.true) in
+    rw (passed, c.managed_size-region.ensures) (set_up_done _ _ _ ok (sym ruled ∙ c.if-setup_ok.true))
 
 pub returns-then-accepts : goal.returns-then-accepts
-returns-then-accepts c = ap (with_device (plain 13)) c.no_device.ensures ∙ set_up_values _ _ _ (let it : Accepted (map_of c.args.map.now) c.args.memory_length = is_accepted _ _ _ c.check_map-answer.ensures (sym c.accepts.ensures ∙ c.if-accepts.true) in it) (sym (let it : let a = c.args in c.setup_ok.result ≡ setup_ok a.values.block_size a.values.addr.0 (region_size (map_of a.map.now)) a.values.usable_size a.values.requested_size = rw (← c.managed_size-region.ensures) c.setup_ok.ensures in it) ∙ c.if-setup_ok.false)
+returns-then-accepts c = let a = c.args in
+    let ok : Accepted (map_of a.map.now) a.memory_length = is_accepted _ _ _ c.check_map-answer.ensures (sym c.accepts.ensures ∙ c.if-accepts.true) in
+    let ruled : c.setup_ok.result ≡ setup_ok a.values.block_size a.values.addr.0 (region_size (map_of a.map.now)) a.values.usable_size a.values.requested_size = rw (← c.managed_size-region.ensures) c.setup_ok.ensures in
+    ap (with_device (plain 13)) c.no_device.ensures ∙ set_up_values _ _ _ ok (sym ruled ∙ c.if-setup_ok.false)
 
 pub returns : goal.returns
 returns c = ap (with_device (reply c.check_map-answer.result)) c.no_device-2.ensures ∙ set_up_refused _ _ _ _ c.check_map-answer.ensures (sym c.accepts.ensures ∙ c.if-accepts.false)
