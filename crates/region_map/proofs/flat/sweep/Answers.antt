@@ -1,0 +1,64 @@
+-- `region_map::flat::sweep` meets its contract. Assumes nothing.
+use mathlib.Core.Path.{◌≡◌, refl, sym, ap, subst, ◌∙◌}
+use mathlib.Core.Bool.{Bool}
+use Prim.Native.Nat.{ℕ, ◌-◌}
+use native.Mathlib.Omega.{arith}
+use Rattle.map_records.specs.Map.{region}
+use Rattle.map_records.specs.Words.{map_of, view_of}
+use Rattle.map_records.specs.declared.map.Region.{Region}
+use Rattle.region_map.specs.Walk.{walk_root}
+use Rattle.region_map.specs.FlatList.{flat}
+use Rattle.region_map.specs.Flatten.{backing_of, root_size, flat_list}
+use Rattle.region_map.specs.Promises.{Grows}
+use Rattle.region_map.proofs.RenderLaws.{whole_from}
+use Rattle.region_map.proofs.ViewLaws.{start, still_full, kept}
+use Rattle.region_map.proofs.flat.sweep.Goals as goal
+
+pub loop-at-init : goal.loop-at-init
+loop-at-init c =
+    let m = map_of c.args.map.now in
+    let h = start (backing_of m) (walk_root m) (view_of c.args.view.now) c.requires.view_len.1 in
+    (omega arith, record { words = c.requires.view_len.0; few = h.0 }, h.1, λ b. b, refl)
+
+pub emit-requires : goal.emit-requires
+emit-requires c =
+    let m = map_of c.args.map.now in
+    let l = c.loop-at in
+    let b = c.begin.ensures in
+    let r = c.render.ensures in
+    let root : c.region_count-root.result - 1 ≡ m.count - 1 = omega (arith, c.region_count-root.ensures) in
+    record {
+      words = c.requires.tree.0.words;
+      room = l.invariant.1;
+      pieces = r.kept;
+      list = l.invariant.2 ∙ ap (flat (backing_of m) (walk_root m)) (sym (r.start ∙ b.first));
+      whole = whole_from m _ root _ _ _ _ _ b.none b.first b.horizon c.root_offset-offset.ensures r;
+    }
+
+pub returns-then-emit : goal.returns-then-emit
+unfolding flat_list
+returns-then-emit c =
+    let m = map_of c.args.map.now in
+    let e = c.emit.ensures in
+    let root : c.region_count-root.result - 1 ≡ m.count - 1 = omega (arith, c.region_count-root.ensures) in
+    let end : c.root_end-end.result.0 ≡ root_size m = c.root_end-end.ensures ∙ ap (λ (r : Region). r.size) c.region_at-region.ensures ∙ ap (λ (n : ℕ). (region m n).size) root in
+    subst (λ (b : Bool). Grows (flat_list m) c.args.view.now b c.emit.new.view) c.if-emit.true
+    (record {
+      grew = still_full _ _ _ _ _ (omega (arith, c.render.ensures.within, c.begin.ensures.horizon, end)) c.if-emit.true e.grew;
+      blank = λ b. e.blank (c.loop-at.invariant.3 b);
+      words = e.words;
+    })
+
+pub returns : goal.returns
+unfolding flat_list
+returns c =
+    let m = map_of c.args.map.now in
+    let l = c.loop-at in
+    let root : c.region_count-root.result - 1 ≡ m.count - 1 = omega (arith, c.region_count-root.ensures) in
+    let end : c.root_end-end.result.0 ≡ root_size m = c.root_end-end.ensures ∙ ap (λ (r : Region). r.size) c.region_at-region.ensures ∙ ap (λ (n : ℕ). (region m n).size) root in
+    let e : l.at.0 ≡ root_size m = omega (arith, l.invariant.0, c.loop-at-test.false, end) in
+    record {
+      grew = kept (view_of l.view) l.invariant.1.few _ (l.invariant.2 ∙ ap (flat (backing_of m) (walk_root m)) e);
+      blank = l.invariant.3;
+      words = l.invariant.1.words;
+    }
