@@ -2,7 +2,7 @@
 // address line, a row for each region from the root down, and the flat view below; or `refused N`.
 #![tactic(auto)]
 
-ghost use Rattle.std.specs.Prelude.{◌≤◌, length, IfOk};
+ghost use Rattle.std.specs.Io.{ReadsAtMost};
 
 use drawing::drawing::draw_sheet;
 use std::io;
@@ -12,7 +12,7 @@ const MEMORY: u64 = 65536;
 
 // Reads until the buffer is full or the input ends, and returns how many bytes it put at the buffer's start.
 fn read_full(input: &mut impl Read, buffer: &mut [u8]) -> io::Result<usize>
-    ensures { IfOk result (λ n. n ≤ length buffer.new) }
+    ensures { ReadsAtMost result buffer.new }
 {
     let mut done: usize = 0;
     while done < buffer.len() {
