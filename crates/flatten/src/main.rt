@@ -1,16 +1,36 @@
 // Reads a sheet on standard input and prints the flat view of its map over a memory of 65,536 bytes:
 // a line for each range, or `refused N`.
-use libc::{STDIN_FILENO, STDOUT_FILENO};
+#![tactic(auto)]
+
+ghost use Rattle.std.specs.Io.{ReadsAtMost};
+
 use listing::listing::list_sheet;
+use std::io;
+use std::io::Read;
 
 const MEMORY: u64 = 65536;
 
+// Reads until the buffer is full or the input ends, and returns how many bytes it put at the buffer's start.
+fn read_full(input: &mut impl Read, buffer: &mut [u8]) -> io::Result<usize>
+    ensures { ReadsAtMost result buffer.new }
+{
+    let mut done: usize = 0;
+    while done < buffer.len() {
+        let n = input.read(&mut buffer[done..])?;
+        if n == 0 {
+            break;
+        }
+        done += n;
+    }
+    Ok(done)
+}
+
 // A sheet has at most 64 KiB. One byte more is read, so that a longer input is refused as the sheet
 // that it is: its first fault, and 5 where the map was read and bytes remain.
-fn main() {
+fn main(rt: HostRuntime) -> io::Result<()> {
     let mut sheet = [0u8; 65537];
-    let n = io::read_full(STDIN_FILENO, &mut sheet);
+    let n = read_full(&mut rt.stdin(), &mut sheet)?;
     let mut text = [0u8; 20480];
     let length = list_sheet(&sheet[..n], MEMORY, &mut text);
-    io::write_all(STDOUT_FILENO, &text[..length]);
+    rt.stdout().write_all(&text[..length])
 }
