@@ -117,11 +117,11 @@ laid_in : (d : List ℕ) (y : MemoryDevice) → is_device d ≡ true → laid d 
 laid_in d y f = rw f
 
 module _ (v d q m x : List ℕ) {b : Bool} (e : b ≡ records_fit v d q x) where
-  pub step_left : {y : SplitQueue} (r : Moved) {c : Report} {n : ℕ} {d' q' m' x' : List ℕ} → b ≡ true → y ≡ queue_of q
+  pub step_left_lem : {y : SplitQueue} (r : Moved) {c : Report} {n : ℕ} {d' q' m' x' : List ℕ} → b ≡ true → y ≡ queue_of q
       → DoesIn d (stepped (view_of v) (device_of d) y m) r d' m'
       → q' ≡ queue_words r.queue → c ≡ step_result (answer_of r.outcome) → Returns c n x' → ReturnsStep (step_call v d q m x) n d' q' m' x'
   unfolding step_call
-  step_left {y = y} r t ey (ea, er, ed, em) eq ec told =
+  step_left_lem {y = y} r t ey (ea, er, ed, em) eq ec told =
       left_as {c = step_left (stepped (view_of v) (device_of d) y m)} (
         ed ∙ laid_in d _ (fits v d q x e t).device,
         eq ∙ ap queue_words er,

@@ -1,4 +1,6 @@
 // What a host program in C or Rust calls: include/wicktumble.h. Records are words in the host's storage.
+#![tactic(auto)]
+
 pub mod devices;
 pub mod maps;
 mod queue_words;

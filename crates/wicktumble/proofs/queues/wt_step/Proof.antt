@@ -1,6 +1,6 @@
 -- `wicktumble::queues::wt_step` meets its contract. Assumes nothing.
 use mathlib.Core.Path.{refl}
-use Rattle.wicktumble.proofs.QueueCalls.{Fits, fits, step_left, step_refused}
+use Rattle.wicktumble.proofs.QueueCalls.{Fits, fits, step_left_lem, step_refused}
 use Rattle.wicktumble.proofs.queues.wt_step.Statement.{statement}
 use Rattle.wicktumble.proofs.queues.wt_step.Tie as tie
 
@@ -10,7 +10,7 @@ fitted c = fits c.before.before.before.before.before.before.before.before.before
 
 returns : tie.Need-returns
 returns c = let s = c.before.before.before.before.before.before.before.before.before.before.before.before.before.before in
-    step_left _ _ _ _ _ s.before.before.before.before.before.before.records-fit.ensures s.step-in-place.result s.before.before.before.before.before.if1.true s.before.before.queue-of.ensures
+    step_left_lem _ _ _ _ _ s.before.before.before.before.before.before.records-fit.ensures s.step-in-place.result s.before.before.before.before.before.if1.true s.before.before.queue-of.ensures
     s.step-in-place.ensures c.before.before.before.before.before.before.before.put-queue.ensures c.before.before.before.say-step.ensures c.before.before.tell.ensures
 
 returns-2 : tie.Need-returns-2
