@@ -71,8 +71,8 @@ module _ (m : RegionMap) (memory : ℕ) (ok : Accepted m memory) (few : length (
       → view_ok (view_holding (flat_list m)) memory bound ≡ true
   made_ok bound managed-in = go (view_holding (flat_list m)) (made_lawful m memory ok few) managed-in
     where
-      kind_ok : (r : FlatRange) → LawfulRange m memory r → kind_ok r ≡ true
-      kind_ok r f = pick (eqb r.kind mmio) refl
+      kind_ok_lem : (r : FlatRange) → LawfulRange m memory r → kind_ok r ≡ true
+      kind_ok_lem r f = pick (eqb r.kind mmio) refl
         where
           pick : (x : Bool) → eqb r.kind mmio ≡ x → (has_memory r.kind || x) ≡ true
           pick true p = or-true (has_memory r.kind)
@@ -96,7 +96,7 @@ module _ (m : RegionMap) (memory : ℕ) (ok : Accepted m memory) (few : length (
       go v l inside = view_of_lem v memory bound l.few (all_of (entry_ok v memory bound) v.count (λ k h.
           let f = l.each k h in
           entry_of v memory bound k
-          (range_of_lem memory bound (range_of v k) (record { order = f.order; last = f.last; offset = f.offset; known = f.known; kind = kind_ok (range_of v k) f; room = memory_ok_lem (range_of v k) f; inside = managed_ok_lem (range_of v k) (inside k h) }))
+          (range_of_lem memory bound (range_of v k) (record { order = f.order; last = f.last; offset = f.offset; known = f.known; kind = kind_ok_lem (range_of v k) f; room = memory_ok_lem (range_of v k) f; inside = managed_ok_lem (range_of v k) (inside k h) }))
           (all_of (λ j. pair_ok (range_of v j) (range_of v k)) k (λ j p.
           let q : j < v.count = omega arith in
           pair_of (range_of v j) (range_of v k) (l.ascending j k p h) (agree_of (range_of v j) (range_of v k) (l.kinds j k q h) (l.bases j k q h))))))

@@ -2,11 +2,9 @@
 use Rattle.std.proofs.Common.{◌≡◌, ℕ, zero, suc, ◌+◌, ◌-◌, min, Bool, true, false, cond, ◌&&◌, ◌||◌, List, [], ◌∷◌, length, set, sym, refl, ap, ◌∙◌, arith, length-set}
 use Rattle.map_records.specs.declared.view.FlatView.{FlatView}
 use Rattle.map_check.proofs.Bools.{and_fst, and_snd, and_true}
-use Rattle.device_words.specs.Device.{device_ok, with_tables}
+use Rattle.device_words.specs.Device.{device_ok}
 use Rattle.device_words.specs.Request.{request_of}
 use Rattle.device_words.specs.Device.{MemoryDevice}
-use Rattle.device_words.specs.declared.request.Request.{Request}
-use Rattle.device_words.specs.declared.request.Response.{Response}
 use Rattle.guest_view.specs.Guest.{Guest, written, by_view}
 use Rattle.guest_view.specs.View.{view_ok}
 use Rattle.virtqueue.specs.Queue.{queue_ok}

@@ -1,5 +1,5 @@
 -- A step over the view of a map that has no managed region. Assumes nothing: these are definitions.
-use Rattle.std.specs.Prelude.{◌≡◌, ℕ, ◌<◌, false, cond, ◌&&◌, List, length, ◌≢◌}
+use Rattle.std.specs.Prelude.{ℕ, ◌<◌, false, cond, ◌&&◌, List, length, ◌≢◌}
 use Rattle.map_records.specs.Map.{managed, region}
 use Rattle.map_records.specs.Refusal as refusal
 use Rattle.map_records.specs.declared.map.RegionMap.{RegionMap}

@@ -1,4 +1,6 @@
 // The device side of a split queue, through a given flat view.
+#![tactic(auto)]
+
 mod chain;
 pub mod in_place;
 pub mod queue;

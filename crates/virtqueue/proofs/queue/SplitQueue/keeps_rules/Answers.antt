@@ -1,0 +1,7 @@
+-- `virtqueue::queue::SplitQueue::keeps_rules` meets its contract. Assumes nothing.
+use Rattle.virtqueue.specs.Queue.{queue_ok}
+use Rattle.virtqueue.proofs.queue.SplitQueue.keeps_rules.Goals as goal
+
+pub returns : goal.returns
+unfolding queue_ok
+returns c = rw (c.areas_ok.ensures, c.stop_ok.ensures)

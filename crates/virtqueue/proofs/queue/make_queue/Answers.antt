@@ -1,0 +1,12 @@
+-- `virtqueue::queue::make_queue` meets its contract. Assumes nothing.
+use Rattle.std.proofs.Common.{sym, ◌∙◌}
+use Rattle.virtqueue.specs.Queue.{made}
+use Rattle.virtqueue.proofs.queue.make_queue.Goals as goal
+
+pub returns-then-areas_ok : goal.returns-then-areas_ok
+unfolding made
+returns-then-areas_ok c = rw (sym c.areas_ok.ensures ∙ c.if-areas_ok.true)
+
+pub returns : goal.returns
+unfolding made
+returns c = rw (sym c.areas_ok.ensures ∙ c.if-areas_ok.false, c.no_queue.ensures)
