@@ -1,5 +1,4 @@
 -- `wicktumble::devices::wt_block_of_byte` meets its contract. Assumes nothing.
-use borrow.Author.Rules.{rules}
 use mathlib.Core.Path.{ap, ◌∙◌}
 use Rattle.device_words.specs.Words.{is_device}
 use Rattle.wicktumble.specs.Devices.{in_block, block_call}

@@ -1,5 +1,4 @@
 -- `wicktumble::devices::wt_request` meets its contract. Assumes nothing.
-use borrow.Author.Rules.{rules}
 use Rattle.wicktumble.proofs.DeviceCalls.{request_done, request_refused}
 use Rattle.wicktumble.proofs.devices.wt_request.Goals as goal
 

@@ -1,5 +1,4 @@
 -- `wicktumble::maps::wt_check_map` meets its contract. Assumes nothing.
-use borrow.Author.Rules.{rules}
 use Rattle.wicktumble.specs.Maps.{check_call}
 use Rattle.map_records.specs.Limits.{is_map}
 use Rattle.wicktumble.proofs.CallLaws.{taken, refused, result_fits, untold_as, reply_told}

@@ -1,5 +1,4 @@
 -- `wicktumble::maps::wt_flatten` meets its contract. Assumes nothing.
-use borrow.Author.Rules.{rules}
 use mathlib.Core.Bool.{◌&&◌}
 use Rattle.wicktumble.specs.Maps.{flatten_call}
 use Rattle.map_records.specs.Limits.{is_view, is_map}

@@ -1,5 +1,4 @@
 -- `wicktumble::maps::wt_read_sheet` meets its contract. Assumes nothing.
-use borrow.Author.Rules.{rules}
 use Rattle.wicktumble.specs.Maps.{read_call}
 use Rattle.map_records.specs.Limits.{is_map}
 use Rattle.wicktumble.proofs.CallLaws.{taken, refused, result_fits, unmade_as, reply_made}

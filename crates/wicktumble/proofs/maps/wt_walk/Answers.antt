@@ -1,5 +1,4 @@
 -- `wicktumble::maps::wt_walk` meets its contract. Assumes nothing.
-use borrow.Author.Rules.{rules}
 use mathlib.Core.Path.{ap, ◌∙◌}
 use Rattle.wicktumble.specs.Maps.{walk_result, walk_call}
 use Rattle.map_records.specs.Limits.{is_map}

@@ -1,7 +1,6 @@
 -- `wicktumble::queue_words::put_queue` meets its contract. Assumes nothing.
 use native.Mathlib.Omega.{arith}
 use lib.ListN.{length-set}
-use borrow.Author.Rules.{rules}
 use Rattle.wicktumble.specs.Queues.{queue_words}
 use Rattle.map_records.proofs.StoreLaws.{over}
 use Rattle.wicktumble.proofs.queue_words.put_queue.Goals as goal

@@ -1,5 +1,4 @@
 -- `wicktumble::queue_words::queue_fits` meets its contract. Assumes nothing.
-use borrow.Author.Rules.{rules}
 use borrow.Author.Tests.{eq-eqb, ne_eqb}
 use Rattle.wicktumble.specs.Queues.{queue_fits}
 use Rattle.wicktumble.proofs.queue_words.queue_fits.Goals as goal

@@ -1,5 +1,4 @@
 -- `wicktumble::queues::put_given` meets its contract. Assumes nothing.
-use borrow.Author.Rules.{rules}
 use Rattle.wicktumble.proofs.QueueCalls.{given_put, given_kept}
 use Rattle.wicktumble.proofs.queues.put_given.Goals as goal
 

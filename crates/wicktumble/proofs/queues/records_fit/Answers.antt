@@ -1,5 +1,4 @@
 -- `wicktumble::queues::records_fit` meets its contract. Assumes nothing.
-use borrow.Author.Rules.{rules}
 use Rattle.wicktumble.proofs.queues.records_fit.Goals as goal
 
 pub returns : goal.returns

@@ -1,5 +1,4 @@
 -- `wicktumble::routes::wt_look_up` meets its contract. Assumes nothing.
-use borrow.Author.Rules.{rules}
 use mathlib.Core.Path.{ap, ◌∙◌}
 use Rattle.map_records.specs.Limits.{is_view}
 use Rattle.wicktumble.specs.Maps.{walk_result}

@@ -1,5 +1,4 @@
 -- `wicktumble::routes::wt_route` meets its contract. Assumes nothing.
-use borrow.Author.Rules.{rules}
 use mathlib.Core.Path.{ap, ◌∙◌}
 use mathlib.Core.Bool.{◌&&◌, ◌||◌}
 use Rattle.map_records.specs.Limits.{is_view}

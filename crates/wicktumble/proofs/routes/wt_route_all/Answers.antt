@@ -1,5 +1,4 @@
 -- `wicktumble::routes::wt_route_all` meets its contract. Assumes nothing.
-use borrow.Author.Rules.{rules}
 use borrow.Author.Tests.{eq-eqb, ne_eqb}
 use lib.ListN.{length}
 use mathlib.Core.Path.{ap, ◌∙◌}

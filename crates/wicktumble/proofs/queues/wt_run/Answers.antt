@@ -1,0 +1,16 @@
+-- `wicktumble::queues::wt_run` meets its contract. Assumes nothing.
+use Rattle.wicktumble.proofs.QueueCalls.{Fits, fits, run_left_lem, run_refused}
+use Rattle.wicktumble.proofs.queues.wt_run.Goals as goal
+
+pub queue_of-requires : goal.queue_of-requires
+queue_of-requires c = let fitted : Fits c.args.device.now c.args.queue.now c.args.res.now = fits c.args.view.now _ _ _ c.records_fit.ensures c.if-records_fit.true in fitted.queue
+
+pub put_queue-requires : goal.put_queue-requires
+put_queue-requires c = let fitted : Fits c.args.device.now c.args.queue.now c.args.res.now = fits c.args.view.now _ _ _ c.records_fit.ensures c.if-records_fit.true in fitted.queue.seven
+
+pub returns-then-records_fit : goal.returns-then-records_fit
+returns-then-records_fit c = run_left_lem _ _ _ _ _ c.records_fit.ensures _ c.run_steps-ran.result c.if-records_fit.true c.queue_of.ensures
+    c.run_steps-ran.ensures c.put_queue.ensures c.say_run.ensures c.tell.ensures
+
+pub returns : goal.returns
+returns c = run_refused _ _ _ _ _ c.records_fit.ensures _ c.if-records_fit.false
