@@ -103,8 +103,8 @@ pub record Ruled (b addr size used asked : ℕ) : Type 0 where
   pub end : addr + size ≤ limit
   pub requested : asked ≤ used
   pub usable : used ≤ size
-  pub «whole-usable» : used % b ≡ 0
-  pub «whole_requested» : asked % b ≡ 0
+  pub whole_usable : used % b ≡ 0
+  pub whole_requested : asked % b ≡ 0
 
 pub setup_ruled : (b addr region usable requested : ℕ) → setup_ok b addr region usable requested ≡ true → Ruled b addr region usable requested
 unfolding setup_ok
@@ -129,8 +129,8 @@ setup_ruled b addr region usable requested h =
       end = leb-true (addr + region) limit (and_snd (eqb (addr % b) 0) (leb (addr + region) limit) a);
       requested = leb-true requested usable (and_fst (leb requested usable) (leb usable region) s2);
       usable = leb-true usable region (and_snd (leb requested usable) (leb usable region) s2);
-      «whole-usable» = eqb-true (usable % b) 0 (and_snd (leb requested usable && leb usable region) (eqb (usable % b) 0) s3);
-      «whole_requested» = eqb-true (requested % b) 0 (and_snd (leb requested usable && leb usable region && eqb (usable % b) 0) (eqb (requested % b) 0) s);
+      whole_usable = eqb-true (usable % b) 0 (and_snd (leb requested usable && leb usable region) (eqb (usable % b) 0) s3);
+      whole_requested = eqb-true (requested % b) 0 (and_snd (leb requested usable && leb usable region && eqb (usable % b) 0) (eqb (requested % b) 0) s);
     }
 
 -- a record that keeps its rules is valid
@@ -153,8 +153,8 @@ device_valid d h =
       end = s.end;
       requested = s.requested;
       usable = s.usable;
-      «whole-usable» = s.«whole-usable»;
-      «whole_requested» = s.«whole_requested»;
+      whole_usable = s.whole_usable;
+      whole_requested = s.whole_requested;
       inside = only_true plugs (d.usable_size / b) (and_snd two (only plugs (d.usable_size / b)) (and_fst three (implies (is_pinned d) plugs) t));
       held = implies_true (is_pinned d) plugs (and_snd three (implies (is_pinned d) plugs) t);
     }

@@ -29,8 +29,8 @@ pub record Valid (d : MemoryDevice) : Type 0 where
   pub end : d.addr + d.region_size ≤ limit
   pub requested : d.requested_size ≤ d.usable_size
   pub usable : d.usable_size ≤ d.region_size
-  pub «whole-usable» : d.usable_size % d.block_size ≡ 0
-  pub «whole_requested» : d.requested_size % d.block_size ≡ 0
+  pub whole_usable : d.usable_size % d.block_size ≡ 0
+  pub whole_requested : d.requested_size % d.block_size ≡ 0
   pub inside : (b : ℕ) → b < most_blocks → bit_at d.plugged b ≡ true → b < d.usable_size / d.block_size
   pub held : (b : ℕ) → b < most_blocks → is_pinned d b ≡ true → bit_at d.plugged b ≡ true
 

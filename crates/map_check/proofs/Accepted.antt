@@ -110,8 +110,8 @@ parented_of m n e h =
     record {
       above = leb-false p n fits.0;
       below = leb-false m.count p fits.1;
-      «not-alias» = eqb-false up alias fits.2;
-      «not-managed» = eqb-false up managed fits.3;
+      not_alias = eqb-false up alias fits.2;
+      not_managed = eqb-false up managed fits.3;
     }
 
 has_parent : (m : RegionMap) (n : ℕ) → (((region m n).parent ≡ 0 → ⊥) → Parented m n) → parent_fault m n ≡ false
@@ -123,7 +123,7 @@ has_parent m n h =
     let f = h (eqb-false (region m n).parent 0 (not-true (eqb (region m n).parent 0) some)) in
     never
     (sym bad
-    ∙ rw (lt-leb p n f.above, lt-leb m.count p f.below, ne_eqb up alias f.«not-alias», ne_eqb up managed f.«not-managed»)))
+    ∙ rw (lt-leb p n f.above, lt-leb m.count p f.below, ne_eqb up alias f.not_alias, ne_eqb up managed f.not_managed)))
 
 target_of : (r : Region) (n : ℕ) → target_fault r n ≡ false → r.kind ≡ alias → r.target < n
 target_of r n e h = leb-false n r.target (and_right (eqb r.kind alias) (leb n r.target) e (eq-eqb r.kind alias h))

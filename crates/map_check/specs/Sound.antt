@@ -31,8 +31,8 @@ pub record Bounded (r : Region) : Type 0 where
 pub record Parented (m : RegionMap) (n : ℕ) : Type 0 where
   pub above : n < parent_of (region m n)
   pub below : parent_of (region m n) < m.count
-  pub «not-alias» : (region m (parent_of (region m n))).kind ≡ alias → ⊥
-  pub «not-managed» : (region m (parent_of (region m n))).kind ≡ managed → ⊥
+  pub not_alias : (region m (parent_of (region m n))).kind ≡ alias → ⊥
+  pub not_managed : (region m (parent_of (region m n))).kind ≡ managed → ⊥
 
 -- 7: the root
 pub record Rooted (r : Region) : Type 0 where

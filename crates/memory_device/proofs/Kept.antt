@@ -36,7 +36,7 @@ resized_setup d size h whole fits =
           (and_snd (region_ok b d.region_size) (addr_ok b d.addr d.region_size && sizes_ok b d.region_size d.usable_size d.requested_size) rest),
       le-leb size (max d.usable_size size) (omega arith),
       le-leb (max d.usable_size size) d.region_size (omega (arith, v.usable)),
-      eq-eqb (max d.usable_size size % b) 0 (larger d.usable_size size b v.«whole-usable» whole),
+      eq-eqb (max d.usable_size size % b) 0 (larger d.usable_size size b v.whole_usable whole),
       eq-eqb (size % b) 0 whole,
     )
   where

@@ -20,8 +20,8 @@ module _ (m : RegionMap) where
   pub record Leaf (k n o : ℕ) : Type 0 where
     pub below : n < k
     pub inside : o < (region m n).size
-    pub «not-container» : (region m n).kind ≡ container → ⊥
-    pub «not-alias» : (region m n).kind ≡ alias → ⊥
+    pub not_container : (region m n).kind ≡ container → ⊥
+    pub not_alias : (region m n).kind ≡ alias → ⊥
 
   -- an answer below k
   abbrev pub Within : ℕ → Resolved → Type 0
@@ -31,7 +31,7 @@ module _ (m : RegionMap) where
   wider : (k l : ℕ) (x : Resolved) → k ≤ l → Within k x → Within l x
   wider k l Nothing h w = tt
   wider k l (At n o) h w =
-      record { below = omega (arith, w.below); inside = w.inside; «not-container» = w.«not-container»; «not-alias» = w.«not-alias» }
+      record { below = omega (arith, w.below); inside = w.inside; not_container = w.not_container; not_alias = w.not_alias }
 
   either : (k : ℕ) (x y : Resolved) → Within k x → Within k y → Within k (or_else x y)
   either k Nothing y p q = q
@@ -47,7 +47,7 @@ module _ (m : RegionMap) where
     where
       go : (b : Bool) → eqb (region m n).kind container ≡ b → Within (suc n) (cond b Nothing (At n (record { 0 = a })))
       go true e = tt
-      go false e = record { below = omega arith; inside = h; «not-container» = eqb-false (region m n).kind container e; «not-alias» = i }
+      go false e = record { below = omega arith; inside = h; not_container = eqb-false (region m n).kind container e; not_alias = i }
 
   in_tried : (u : ℕ → ℕ → Resolved) (n : ℕ) → ((c x : ℕ) → Within n (u c x)) → (r a : ℕ) → a < (region m n).size → ((region m n).kind ≡ alias → ⊥)
       → Within (suc n) (tried priority_of m u n r a)
@@ -102,6 +102,6 @@ root_leaf m memory ok a n o e =
     let w : Leaf m (suc (m.count - 1)) n o.0 = subst (Within m (suc (m.count - 1))) e (in_walk m (m.count - 1) a) in
     let low : n < m.count = omega (arith, w.below) in
     let top = leb-true (region m n).kind managed (s.kinds n low) in
-    let nc = w.«not-container» in
-    let na = w.«not-alias» in
+    let nc = w.not_container in
+    let na = w.not_alias in
     record { below = low; inside = w.inside; kinds = λ q. leaf_memory (region m n).kind top nc na q }

@@ -90,10 +90,10 @@ stretch_stored f xs ys a w k n e h p =
 
 -- What is gathered of a chain c₀ where c is left of it.
 pub record Going (place : ℕ → ℕ) (memory : List ℕ) (c₀ c : Chain) (s : Got) : Type 0 where
-  pub «few-read» : s.readable ≤ 24
-  pub «few-written» : s.writable ≤ 10
-  pub «all_read» : length s.request ≡ 24
-  pub «all-written» : length s.places ≡ 10
+  pub few_read : s.readable ≤ 24
+  pub few_written : s.writable ≤ 10
+  pub all_read : length s.request ≡ 24
+  pub all_written : length s.places ≡ 10
   pub end : end_of c ≡ end_of c₀
   pub request : take s.readable s.request ++ map (byte_at place memory) (first_bytes (24 - s.readable) (readable c)) ≡ request_bytes place memory c₀
   pub places : take s.writable s.places ++ map place (first_bytes (10 - s.writable) (writable c)) ≡ response_places place c₀
@@ -103,7 +103,7 @@ module _ (place : ℕ → ℕ) (memory : List ℕ) (c₀ : Chain) where
       → Going place memory c₀ c₀ (record { request = request; readable = 0; places = places; writable = 0; late = false })
   unfolding request_bytes response_places
   going_start request places p q =
-      record { «few-read» = omega arith; «few-written» = omega arith; «all_read» = p; «all-written» = q; end = refl; request = refl; places = refl }
+      record { few_read = omega arith; few_written = omega arith; all_read = p; all_written = q; end = refl; request = refl; places = refl }
 
   pub going_added : (c : Chain) (d : Descriptor) (s : Got) → Going place memory c₀ (element d c) s → Going place memory c₀ c (added place memory s d)
   unfolding end_of readable writable
@@ -114,24 +114,24 @@ module _ (place : ℕ → ℕ) (memory : List ℕ) (c₀ : Chain) where
           let k : ℕ = min (10 - s.writable) d.length in
           subst (λ (r : Got). Going place memory c₀ c r) (added_written place memory s d w k refl)
           (record {
-            «few-read» = g.«few-read»;
-            «few-written» = omega (arith, g.«few-written»);
-            «all_read» = g.«all_read»;
-            «all-written» = length-sets s.places s.writable (map place (addresses d.addr.0 k)) ∙ g.«all-written»;
+            few_read = g.few_read;
+            few_written = omega (arith, g.few_written);
+            all_read = g.all_read;
+            all_written = length-sets s.places s.writable (map place (addresses d.addr.0 k)) ∙ g.all_written;
             end = g.end;
             request = rw w at g.request;
-            places = more place 10 s.writable s.places d (writable c) g.«all-written» g.«few-written» ∙ (rw w at g.places);
+            places = more place 10 s.writable s.places d (writable c) g.all_written g.few_written ∙ (rw w at g.places);
           })
       go false w =
           let k : ℕ = min (24 - s.readable) d.length in
           subst (λ (r : Got). Going place memory c₀ c r) (added_read place memory s d w k refl)
           (record {
-            «few-read» = omega (arith, g.«few-read»);
-            «few-written» = g.«few-written»;
-            «all_read» = length-sets s.request s.readable (map (byte_at place memory) (addresses d.addr.0 k)) ∙ g.«all_read»;
-            «all-written» = g.«all-written»;
+            few_read = omega (arith, g.few_read);
+            few_written = g.few_written;
+            all_read = length-sets s.request s.readable (map (byte_at place memory) (addresses d.addr.0 k)) ∙ g.all_read;
+            all_written = g.all_written;
             end = g.end;
-            request = more (byte_at place memory) 24 s.readable s.request d (readable c) g.«all_read» g.«few-read» ∙ (rw w at g.request);
+            request = more (byte_at place memory) 24 s.readable s.request d (readable c) g.all_read g.few_read ∙ (rw w at g.request);
             places = rw w at g.places;
           })
 
@@ -141,8 +141,8 @@ module _ (place : ℕ → ℕ) (memory : List ℕ) (c₀ : Chain) where
   going_whole s k z g =
       record {
         end = z ∙ g.end;
-        «few-read» = λ e. g.«few-read»;
-        «few-written» = λ e. g.«few-written»;
+        few_read = λ e. g.few_read;
+        few_written = λ e. g.few_written;
         request = λ e. sym (append-nil (take s.readable s.request)) ∙ g.request;
         places = λ e. sym (append-nil (take s.writable s.places)) ∙ g.places;
       }
@@ -158,8 +158,8 @@ module _ (place : ℕ → ℕ) (memory : List ℕ) (c₀ : Chain) where
       let never : end_of c₀ ≡ 0 → ⊥ = λ n. p (sym e ∙ g.end ∙ n) in
       record {
         end = q ∙ sym e ∙ g.end;
-        «few-read» = λ n. absurd (never n);
-        «few-written» = λ n. absurd (never n);
+        few_read = λ n. absurd (never n);
+        few_written = λ n. absurd (never n);
         request = λ n. absurd (never n);
         places = λ n. absurd (never n);
       }

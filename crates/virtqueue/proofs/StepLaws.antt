@@ -150,8 +150,8 @@ module _ (g : Guest) (memory : List ℕ) (request places : List ℕ) where
   pub record TakenReady (x : Offer) (h : ℕ) (notify : Bool) : Type 0 where
     pub chain : Chain
     pub is : x ≡ ready h notify chain
-    pub «its-request» : request ≡ request_bytes g.place memory chain
-    pub «its-places» : places ≡ response_places g.place chain
+    pub its_request : request ≡ request_bytes g.place memory chain
+    pub its_places : places ≡ response_places g.place chain
 
   pub taken_ready : (x : Offer) (t : TakenOffer) (h : ℕ) (notify : Bool) → Takes g memory x t request places → t ≡ offer.Ready h notify → TakenReady x h notify
   taken_ready (stop j) t h notify w e = absurd (let z : ◌≡◌ {A = ℕ} 0 1 = cc in omega arith)
@@ -160,7 +160,7 @@ module _ (g : Guest) (memory : List ℕ) (request places : List ℕ) where
       let f = w.0 in
       let p : j ≡ h = cc in
       let q : b ≡ notify = cc in
-      record { chain = c; is = rw (p, q); «its-request» = w.1; «its-places» = w.2 }
+      record { chain = c; is = rw (p, q); its_request = w.1; its_places = w.2 }
 
 -- What a step on records that were judged leaves: the answer, the device's words and memory.
 abbrev pub Left : FlatView → List ℕ → SplitQueue → List ℕ → Moved → List ℕ → List ℕ → Type 0
@@ -192,7 +192,7 @@ module _ (v : FlatView) (w : List ℕ) (l : length w ≡ device_length) (q : Spl
     judged_used = used_in v d q readied.used
 
     pub judged_within : (n : ℕ) → Backed v n → Within places n
-    judged_within n b = rw judged.«its-places» (ready_within v d memory q h judged.chain n b readied.chain)
+    judged_within n b = rw judged.its_places (ready_within v d memory q h judged.chain n b readied.chain)
 
     pub judged_low : queue_ok q ≡ true → h < 65536
     judged_low k = omega (arith, readied.low, (queue_facts q k).most)
@@ -202,7 +202,7 @@ module _ (v : FlatView) (w : List ℕ) (l : length w ≡ device_length) (q : Spl
         → Left v w q memory (record { outcome = Served notify; queue = p }) device m
     unfolding stepped_by
     judged_ready p used bytes device m f x y z u =
-        rw (judged.is, ← judged.«its-request», ← judged.«its-places», eq-eqb (length w) device_length l, f, z, u, x, y) (refl, refl, refl, refl)
+        rw (judged.is, ← judged.its_request, ← judged.its_places, eq-eqb (length w) device_length l, f, z, u, x, y) (refl, refl, refl, refl)
 
 -- 27's rules, and the step on records that keep them or not
 pub record RecordFacts (v : FlatView) (d : MemoryDevice) (q : SplitQueue) (n : ℕ) : Type 0 where

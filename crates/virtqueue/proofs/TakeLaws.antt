@@ -92,14 +92,14 @@ module _ (place : ℕ → ℕ) (memory : List ℕ) (c : Chain) (r : Gathered) (r
   read_count e =
       let l : length (take r.readable request) ≡ min 24 (total (readable c)) =
       ap length (g.request e) ∙ length-map (first_bytes 24 (readable c)) (byte_at place memory) ∙ length_first 24 (readable c) in
-      omega (arith, g.«few-read» e, length-take r.readable request)
+      omega (arith, g.few_read e, length-take r.readable request)
 
   written_count : end_of c ≡ 0 → r.writable ≡ min 10 (total (writable c))
   unfolding response_places
   written_count e =
       let l : length (take r.writable places) ≡ min 10 (total (writable c)) =
       ap length (g.places e) ∙ length-map (first_bytes 10 (writable c)) place ∙ length_first 10 (writable c) in
-      omega (arith, g.«few-written» e, length-take r.writable places)
+      omega (arith, g.few_written e, length-take r.writable places)
 
   pub gathered_shape : shape_from r ≡ shape_of c
   unfolding shape_of

@@ -23,7 +23,7 @@ stepped_tables v d q memory t = go (records_ok v d q (length memory))
     go false = t
 
 module _ (v : FlatView) (d : value.MemoryDevice) (q : SplitQueue) (memory w x m : List ℕ) (s : Moved) (r : value.MemoryDevice)
-    (Laid-in : w ≡ device_words (record_of d)) (stands : device_of w ≡ record_of d) (t : Tables (record_of d)) (left : LeftAny v w q memory s x m) (back : record_of r ≡ device_of x) where
+    (laid_in : w ≡ device_words (record_of d)) (stands : device_of w ≡ record_of d) (t : Tables (record_of d)) (left : LeftAny v w q memory s x m) (back : record_of r ≡ device_of x) where
   abbrev after : Effect MemoryDevice
   after = stepped v (record_of d) q memory
 
@@ -31,7 +31,7 @@ module _ (v : FlatView) (d : value.MemoryDevice) (q : SplitQueue) (memory w x m 
   same = ap (λ (e : MemoryDevice). stepped v e q memory) stands
 
   whole : laid w (stepped v (device_of w) q memory).device ≡ device_words after.device
-  whole = rw (eq-eqb (length w) device_length (ap length Laid-in ∙ words_length (record_of d) t.0 t.1)) (ap (λ (e : Effect MemoryDevice). device_words e.device) same)
+  whole = rw (eq-eqb (length w) device_length (ap length laid_in ∙ words_length (record_of d) t.0 t.1)) (ap (λ (e : Effect MemoryDevice). device_words e.device) same)
 
   device_is : record_of r ≡ after.device
   device_is =

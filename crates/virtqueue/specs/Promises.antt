@@ -116,10 +116,10 @@ nothing_yet = record { stop = 0; readable = 0; writable = 0; late = false }
 
 -- the lent buffers have 24 bytes and 10 places, of which no more are there
 pub record Filled (s : Gathered) (request places : List ℕ) : Type 0 where
-  pub «few-read» : s.readable ≤ request_length
-  pub «few-written» : s.writable ≤ response_length
-  pub «all_read» : length request ≡ request_length
-  pub «all-written» : length places ≡ response_length
+  pub few_read : s.readable ≤ request_length
+  pub few_written : s.writable ≤ response_length
+  pub all_read : length request ≡ request_length
+  pub all_written : length places ≡ response_length
 
 -- what an accepted element adds: bytes of the request up to 24, or places for the response up to 10
 unfoldable pub added : (ℕ → ℕ) → List ℕ → Got → Descriptor → Got
@@ -151,8 +151,8 @@ pub record Visits (place : ℕ → ℕ) (memory : List ℕ) (reached : Descripto
 -- what a chain gives up: its end, and of a whole one its first readable bytes and the places of its first writable ones
 pub record Gathers (place : ℕ → ℕ) (memory : List ℕ) (c : Chain) (k : ℕ) (t : Got) : Type 0 where
   pub end : k ≡ end_of c
-  pub «few-read» : end_of c ≡ 0 → t.readable ≤ request_length
-  pub «few-written» : end_of c ≡ 0 → t.writable ≤ response_length
+  pub few_read : end_of c ≡ 0 → t.readable ≤ request_length
+  pub few_written : end_of c ≡ 0 → t.writable ≤ response_length
   pub request : end_of c ≡ 0 → take t.readable t.request ≡ request_bytes place memory c
   pub places : end_of c ≡ 0 → take t.writable t.places ≡ response_places place c
 

@@ -20,7 +20,7 @@ returns-then-is_writable c = let a = c.args in
     let f = c.requires.filled in
     let e = c.fitting.ensures in (
       ap (λ (z : List ℕ). got_of (record { stop = 0; readable = a.so_far.readable; writable = w + n; late = true }) a.request.now z)
-          (stretch_stored (place_in (view_of a.view.now)) a.places.now _ a.d.addr.0 w (w + n - w) n (omega arith) (omega (arith, e, f.«few-written», f.«all-written»)) c.find_places.ensures)
+          (stretch_stored (place_in (view_of a.view.now)) a.places.now _ a.d.addr.0 w (w + n - w) n (omega arith) (omega (arith, e, f.few_written, f.all_written)) c.find_places.ensures)
           ∙ added_written (place_in (view_of a.view.now)) a.mem.now (got_of a.so_far a.request.now a.places.now) a.d (sym c.is_writable.ensures ∙ c.if-is_writable.true) n e,
       refl,
     )
@@ -37,7 +37,7 @@ returns c = let a = c.args in
     let f = c.requires.filled in
     let e = c.fitting-2.ensures in (
       ap (λ (z : List ℕ). got_of (record { stop = 0; readable = w + n; writable = a.so_far.writable; late = false }) z a.places.now)
-          (stretch_stored (byte_at (place_in (view_of a.view.now)) a.mem.now) a.request.now _ a.d.addr.0 w (w + n - w) n (omega arith) (omega (arith, e, f.«few-read», f.«all_read»)) c.read_bytes.ensures)
+          (stretch_stored (byte_at (place_in (view_of a.view.now)) a.mem.now) a.request.now _ a.d.addr.0 w (w + n - w) n (omega arith) (omega (arith, e, f.few_read, f.all_read)) c.read_bytes.ensures)
           ∙ added_read (place_in (view_of a.view.now)) a.mem.now (got_of a.so_far a.request.now a.places.now) a.d (sym c.is_writable.ensures ∙ c.if-is_writable.false) n e,
       refl,
     )

@@ -21,7 +21,7 @@ returns-in_default c = going_ended _ _ _ _ 17 _ _ _ c.loop-left.invariant.2
 
 pub visit-so_far-requires : goal.visit-so_far-requires
 visit-so_far-requires c = let g = c.loop-left.invariant.2 in
-    record { lent = c.requires.lent.0; filled = record { «few-read» = g.«few-read»; «few-written» = g.«few-written»; «all_read» = g.«all_read»; «all-written» = g.«all-written» } }
+    record { lent = c.requires.lent.0; filled = record { few_read = g.few_read; few_written = g.few_written; all_read = g.all_read; all_written = g.all_written } }
 
 pub returns-then-so_far-ne0 : goal.returns-then-so_far-ne0
 returns-then-so_far-ne0 c = going_ended _ _ _ _ _ _ _ _ c.loop-left.invariant.2
