@@ -116,7 +116,7 @@ module _ (d : Sizes) (r : Request) where
 
 -- a request in range has its blocks in the table
 module _ (d : Sizes) (r : Request) (z : Sized d) (h : in_range d r ≡ true) where
-  in_blocks : block_of d r.addr.0 + r.blocks ≤ 1024
+  pub in_blocks : block_of d r.addr.0 + r.blocks ≤ 1024
   in_blocks = blocks_fit d r.addr.0 r.blocks z (in_end d r h)
 
   pub in_facts : (0 < d.block_size) × (d.addr.0 ≤ r.addr.0) × (block_of d r.addr.0 < 1024)

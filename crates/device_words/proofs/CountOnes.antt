@@ -4,12 +4,13 @@ use mathlib.Core.Path.{◌≡◌, refl, ap, ap₂, ◌∙◌, sym}
 use mathlib.Core.Bool.{cond}
 use mathlib.Core.List.{List}
 use Prim.Native.Nat.{ℕ, suc, zero, ◌+◌, ◌*◌, ◌/◌, ◌%◌, ◌^◌, ◌≤◌, ◌<◌}
-use native.Mathlib.Nat.{add_comm, add_assoc, add-zero, zero-add, mod-eq_of_lt, mod-lt, mod-one, le_refl}
+use native.Mathlib.Nat.{add-mul, div-add-mod', pow-suc, add_comm, add_assoc, add-zero, zero-add, mod-eq_of_lt, mod-lt, mod-one, le_refl}
 use native.Mathlib.Omega.{arith}
 use lib.Dec.{eqb, lit<}
 use lib.Pow.{pow_pos, mod-pow-add}
 use lib.Count.{ones, ones_cat}
 use lib.ListN.{get_or}
+use Rattle.std.proofs.lemmas.Nat.{zero_from_ones}
 use Rattle.device_words.specs.Table.{bit_of, bit_at, bits_in, held_in, set_in}
 use Rattle.device_words.proofs.TableLaws.{block}
 
@@ -35,6 +36,27 @@ ones_low w (suc n) =
 -- The count of ones of a word of n bits is the number of its bits that are set.
 pub ones_bits : (n w : ℕ) → w < 2 ^ n → ones w ≡ bits_in w n
 ones_bits n w h = ap ones (sym (mod-eq_of_lt h)) ∙ ones_low w n
+
+-- a power of two has one, and a word that has one is a power of two
+pub ones_pow : (k : ℕ) → ones (2 ^ k) ≡ 1
+ones_pow k =
+    let e : 2 ^ k ≡ 1 * 2 ^ k + 0 = omega arith in
+    ap ones e ∙ ones_cat k 1 0 (pow_pos k) ∙ ap₂ ◌+◌ (ones_digit 1 (lit< tt)) (ones_digit 0 (lit< tt))
+
+pub pow_of_ones : (n w : ℕ) → w < 2 ^ n → ones w ≡ 1 → (k : ℕ) × (k < n) × (w ≡ 2 ^ k)
+pow_of_ones zero w h e = let z : w ≡ 0 = omega arith in absurd (let no : ◌≡◌ {A = ℕ} 0 1 = sym (ones_digit 0 (lit< tt)) ∙ ap ones (sym z) ∙ e in omega arith)
+pow_of_ones (suc n) w h e = go (λ l. pow_of_ones n w l e) (w / 2 ^ n) refl (w % 2 ^ n) refl (mod-lt w (pow_pos n))
+  where
+    go : (w < 2 ^ n → (k : ℕ) × (k < n) × (w ≡ 2 ^ k)) → (q : ℕ) → w / 2 ^ n ≡ q → (r : ℕ) → w % 2 ^ n ≡ r → r < 2 ^ n → (k : ℕ) × (k < suc n) × (w ≡ 2 ^ k)
+    go below zero d r m l =
+        let same : w ≡ r = sym (div-add-mod' w (2 ^ n)) ∙ omega (arith, ap (λ (x : ℕ). x * 2 ^ n) d) in
+        let found = below (omega arith) in
+        (found.0, omega arith, found.2)
+    go below (suc zero) d r m l =
+        let same : w ≡ 1 * 2 ^ n + r = sym (div-add-mod' w (2 ^ n)) ∙ omega (arith, ap (λ (x : ℕ). x * 2 ^ n) d) in
+        let rest : ones r ≡ 0 = omega (arith, e, ap ones same, ones_cat n 1 r l, ones_digit 1 (lit< tt)) in
+        (n, omega arith, omega (arith, zero_from_ones r rest))
+    go below (suc (suc q)) d r m l = absurd (omega (arith, pow-suc 2 n, div-add-mod' w (2 ^ n), ap (λ (x : ℕ). x * 2 ^ n) d, add-mul 2 q (2 ^ n)))
 
 -- ---- a table
 

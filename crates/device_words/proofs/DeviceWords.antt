@@ -12,7 +12,7 @@ use borrow.Author.Tests.{eq-eqb, ne_eqb, eqb-true, eqb-false}
 use Rattle.map_records.proofs.Order.{eq_or_not}
 use Rattle.map_check.proofs.Bools.{and_fst, and_snd}
 use Rattle.device_words.specs.Table.{IsTable}
-use Rattle.device_words.specs.Device.{MemoryDevice, no_device, with_tables, with_plugged, with_pins, power_below, setup_ok, device_ok}
+use Rattle.device_words.specs.Device.{MemoryDevice, no_device, with_tables, with_plugged, with_pins, power_below, setup_ok, setup_kept, tables_ok, device_ok}
 use Rattle.device_words.specs.Words.{is_device, device_at, device_of, device_words, device_length}
 use Rattle.device_words.proofs.TableLaws.{zero_word}
 
@@ -108,6 +108,16 @@ tables_stored w t u p q l e f h =
     rw (e, f)
     (ap (λ (x : List ℕ). take 21 x ++ (q ++ drop 16 (drop 21 x))) (plug_stored w p l) ∙ pins_stored (device_words d) q size
     ∙ ap (λ (m : MemoryDevice). device_words (with_pins m q)) (sym (device_at_lem (device_words d) size) ∙ record_back d h (pins_length w l)))
+
+-- the test of as many words goes on to the tables where SETUP's rules are kept
+module _ (w : List ℕ) (l : length w ≡ device_length) where
+  pub setup_passed : {x : Bool} → setup_kept (device_at w) ≡ true → x ≡ tables_ok (device_at w) → x ≡ (is_device w && device_ok (device_of w))
+  unfolding device_ok
+  setup_passed k e = rw (eq-eqb (length w) device_length l, device_at_lem w l, k) e
+
+  pub setup_failed : setup_kept (device_at w) ≡ false → false ≡ (is_device w && device_ok (device_of w))
+  unfolding device_ok
+  setup_failed k = rw (eq-eqb (length w) device_length l, device_at_lem w l, k)
 
 -- what the test of the words says
 module _ (w : List ℕ) (x : Bool) (e : x ≡ (is_device w && device_ok (device_of w))) where

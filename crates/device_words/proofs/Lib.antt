@@ -3,6 +3,7 @@ pub mod ByteLaws
 pub mod CountOnes
 pub mod DeviceWords
 pub mod Kept
+pub mod ListTests
 pub mod PlugLaws
 pub mod RespondLaws
 pub mod RuleLaws

@@ -2,30 +2,26 @@
 use mathlib.Core.Path.{◌≡◌, refl, sym, ap, ◌∙◌}
 use mathlib.Core.Bool.{Bool, true, false, ◌&&◌, ◌||◌, not}
 use mathlib.Core.Logic.{⊎_elim}
-use Prim.Native.Nat.{ℕ, zero, suc, ◌+◌, ◌*◌, ◌/◌, ◌%◌, ◌^◌, ◌≤◌, ◌<◌}
+use Prim.Native.Nat.{ℕ, zero, suc, ◌+◌, ◌-◌, ◌*◌, ◌/◌, ◌%◌, ◌^◌, ◌≤◌, ◌<◌}
 use native.Mathlib.Nat.{eq-or-lt_of_le, div-lt_iff_lt-mul, le-div_iff_mul-le, div-add-mod', add-mul, one-mul}
-use native.Mathlib.Numerals.{add-one}
 use native.Mathlib.Omega.{arith}
 use lib.Dec.{eqb, leb, ltb}
 use lib.Pow.{pow_mono}
-use borrow.Author.Tests.{leb-true, ltb-true, lt-ltb, eqb-true, eqb-false, not-true, eq-eqb, ne_eqb}
+use borrow.Author.Tests.{le-leb, leb-true, ltb-true, lt-ltb, eqb-true, eqb-false, not-true, eq-eqb}
 use Rattle.device_words.specs.Table.{bit_at, only, implies}
 use Rattle.map_records.specs.Limits.{limit}
 use Rattle.device_words.specs.Device.{MemoryDevice, is_pinned, sizes_of, power_below, block_ok, region_ok, addr_ok, sizes_ok, setup_ok, setup_kept, tables_ok, device_ok}
 use Rattle.device_words.specs.Promises.{Valid, Sized}
+use lib.Count.{ones}
+use Rattle.std.specs.Int.{is_power_of_two}
+use Rattle.map_records.proofs.Order.{side}
+use Rattle.device_words.proofs.ListTests.{same_test}
+use Rattle.device_words.proofs.CountOnes.{ones_pow, pow_of_ones}
 use Rattle.device_words.proofs.TableLaws.{all_true, all_of}
 use Rattle.map_check.proofs.Bools.{never, and_fst, and_snd, and_off}
 
 -- the powers of two that a block size may be
 module _ (b : ℕ) where
-  pub power_none : power_below b 0 ≡ false
-  unfolding power_below
-  power_none = refl
-
-  pub power_next : (n : ℕ) → power_below b n ≡ false → (b ≡ 2 ^ (12 + n) → ⊥) → power_below b (n + 1) ≡ false
-  unfolding power_below
-  power_next n h ne = rw (add-one, h, ne_eqb b (2 ^ (12 + n)) ne)
-
   pub power_is : (n k : ℕ) → k < n → b ≡ 2 ^ (12 + k) → power_below b n ≡ true
   unfolding power_below
   power_is zero k h e = absurd (omega arith)
@@ -50,6 +46,36 @@ module _ (b : ℕ) where
           let high : 2 ^ (12 + n) ≤ 2 ^ 30 = pow_mono {i = 12 + n} {j = 30} (omega arith) in
           (omega arith, omega arith)
       go ih false e false f g = absurd (let z : ◌≡◌ {A = ℕ} 0 1 = cc in omega arith)
+
+  power_some : (n : ℕ) → power_below b n ≡ true → (k : ℕ) × (b ≡ 2 ^ k)
+  unfolding power_below
+  power_some zero e = absurd (never (sym e))
+  power_some (suc n) e = go (power_below b n) (power_some n) (eqb b (2 ^ (12 + n))) refl e
+    where
+      go : (x : Bool) → (x ≡ true → (k : ℕ) × (b ≡ 2 ^ k)) → (y : Bool) → eqb b (2 ^ (12 + n)) ≡ y → (x || y) ≡ true → (k : ℕ) × (b ≡ 2 ^ k)
+      go true ih y q h = ih refl
+      go false ih true q h = (12 + n, eqb-true b (2 ^ (12 + n)) q)
+      go false ih false q h = absurd (never (sym h))
+
+  -- the same by the language's test of a power of two
+  pub power_tested : (leb 4096 b && leb b 1073741824 && is_power_of_two b) ≡ block_ok b
+  power_tested =
+      same_test (leb 4096 b && leb b 1073741824 && is_power_of_two b) (block_ok b)
+      (λ e. let two = and_fst (leb 4096 b && leb b 1073741824) (is_power_of_two b) e in
+      let least : 4096 ≤ b = leb-true 4096 b (and_fst (leb 4096 b) (leb b 1073741824) two) in
+      let most : b ≤ 1073741824 = leb-true b 1073741824 (and_snd (leb 4096 b) (leb b 1073741824) two) in
+      let found = pow_of_ones 31 b (omega arith) (eqb-true (ones b) 1 (and_snd (leb 4096 b && leb b 1073741824) (is_power_of_two b) e)) in
+      placed found.0 found.1 found.2 least)
+      (λ e. let bounds = power_bounds 19 (omega arith) e in
+      let found = power_some 19 e in
+      rw (le-leb 4096 b bounds.0, le-leb b 1073741824 bounds.1) (eq-eqb (ones b) 1 (ap ones found.1 ∙ ones_pow found.0)))
+    where
+      placed : (k : ℕ) → k < 31 → b ≡ 2 ^ k → 4096 ≤ b → block_ok b ≡ true
+      placed k h e least =
+          ⊎_elim
+          (λ (low : k < 12). absurd (let top : 2 ^ k ≤ 2 ^ 11 = pow_mono {i = k} {j = 11} (omega arith) in omega arith))
+          (λ (high : 12 ≤ k). let at : 12 + (k - 12) ≡ k = omega arith in power_is 19 (k - 12) (omega arith) (e ∙ ap (λ (x : ℕ). 2 ^ x) (sym at)))
+          (side k 12)
 
 -- blocks of a size
 pub blocks_bound : (b s n : ℕ) → 0 < b → s ≤ n * b → s / b ≤ n

@@ -3,17 +3,21 @@ use mathlib.Core.Path.{◌≡◌, refl, ap, ◌∙◌, sym, subst}
 use Rattle.map_records.proofs.Order.{side}
 use mathlib.Core.Bool.{Bool, true, false, cond, not, ◌&&◌, ◌||◌, or-true}
 use mathlib.Core.Logic.{⊎_elim}
-use mathlib.Core.List.{List}
+use mathlib.Core.List.{List, [], ◌∷◌}
 use Prim.Native.Nat.{ℕ, suc, zero, ◌+◌, ◌-◌, ◌*◌, ◌/◌, ◌%◌, ◌^◌, ◌≤◌, ◌<◌}
-use native.Mathlib.Nat.{eq-or-lt_of_le, zero-div, mod-eq_of_lt, mod-lt, mod-one, one-mul, zero-mul, pow-suc, add-mul-mod_self_right, div-eq_of_lt, add-zero, zero-add}
-use native.Mathlib.Numerals.{add-one}
+use native.Mathlib.Nat.{div-one, eq-or-lt_of_le, zero-div, mod-eq_of_lt, mod-lt, mod-one, one-mul, zero-mul, pow-suc, add-mul-mod_self_right, div-eq_of_lt, add-zero, zero-add}
+use Rattle.std.specs.List.{sum_by, list_all, zip}
+use Rattle.std.proofs.lemmas.List.Sums.{sum_by-cons}
+use Rattle.std.proofs.lemmas.Slice.Zip.{get_or-zip, length-zip}
+use Rattle.device_words.proofs.ListTests.{same_test, list_true, list_of}
+use lib.Seq.{get_or-drop}
 use native.Mathlib.Omega.{arith}
 use lib.Dec.{ltb, eqb, lit<}
 use lib.Pow.{pow-add, shr-shr, mod-pow-add, field, high}
 use lib.Bits.{bit_and, and_shr, and_mod, and_lt}
-use lib.ListN.{length, get_or, replicate, get_or-eq_default}
+use lib.ListN.{length, get_or, replicate, drop, length-drop, get_or-eq_default}
 use lib.Seq.{ext_get_or}
-use borrow.Author.Tests.{lt-ltb, le-ltb}
+use borrow.Author.Tests.{lt-ltb, le-ltb, eqb-true, eq-eqb}
 use Rattle.map_check.proofs.Bools.{never}
 use Rattle.device_words.specs.Table.{IsTable, bit_of, bit_at, word_of, words_of, table_of, held_in, bits_in, set_in, all_below}
 use Rattle.device_words.specs.Promises.{only_below, part_of}
@@ -241,13 +245,6 @@ none_high w k h p g =
 abbrev below : List ℕ → ℕ → ℕ → Bool
 below t n b = not (bit_at t b) || ltb b n
 
--- the words up to word i hold, and word i too
-pub more_words : (P : ℕ → Bool) (i : ℕ) → ((b : ℕ) → b < i * 64 → P b ≡ true) → ((k : ℕ) → k < 64 → P (i * 64 + k) ≡ true) → (b : ℕ) → b < (i + 1) * 64 → P b ≡ true
-more_words P i old new b h =
-    ⊎_elim (λ lt. old b lt)
-    (λ ge. let e : i * 64 + (b - i * 64) ≡ b = omega arith in ap P (sym e) ∙ new (b - i * 64) (omega arith))
-    (side b (i * 64))
-
 -- a block below n is below n, or not set
 pub low_set : (t : List ℕ) (n b : ℕ) → b < n → below t n b ≡ true
 low_set t n b p = ap (λ (x : Bool). not (bit_at t b) || x) (lt-ltb b n p) ∙ or-true (not (bit_at t b))
@@ -261,15 +258,57 @@ module _ (t : List ℕ) (n i : ℕ) where
   word_low_all j g e k p =
       ⊎_elim (λ lt. low_set t n (i * 64 + k) lt) (λ ge. high_unset k p (high_none (get_or t i 0) j e k (g k ge))) (side (i * 64 + k) n)
 
-  -- a block of word i from n on is set, where one of its bits from j on is
-  pub word_high_not : (j : ℕ) → j ≤ 64 → ((k : ℕ) → j ≤ k → n ≤ i * 64 + k) → i < 16 → get_or t i 0 < 2 ^ 64 → (get_or t i 0 / 2 ^ j ≡ 0 → ⊥) → only_below t n ≡ false
-  word_high_not j le g h fits ne =
-      refuted (only_below t n) (λ all. ne (none_high (get_or t i 0) j fits le (λ k p q. sym (block t i k q)
-      ∙ unset (bit_at t (i * 64 + k)) (ltb (i * 64 + k) n) (all_true (below t n) 1024 all (i * 64 + k) (omega arith)) (le-ltb (i * 64 + k) n (g k p)))))
+  -- and the other way: where no block from n on is set, none of its bits from j on is
+  pub word_high : (j : ℕ) → j ≤ 64 → ((k : ℕ) → j ≤ k → n ≤ i * 64 + k) → i < 16 → get_or t i 0 < 2 ^ 64 → only_below t n ≡ true → get_or t i 0 / 2 ^ j ≡ 0
+  word_high j le g h fits all =
+      none_high (get_or t i 0) j fits le (λ k p q. sym (block t i k q)
+      ∙ unset (bit_at t (i * 64 + k)) (ltb (i * 64 + k) n) (all_true (below t n) 1024 all (i * 64 + k) (omega arith)) (le-ltb (i * 64 + k) n (g k p)))
     where
       unset : (a b : Bool) → (not a || b) ≡ true → b ≡ false → a ≡ false
       unset true b e q = absurd (never (sym e ∙ q))
       unset false b e q = refl
+
+-- every block, by its word and its bit
+by_word : (P : ℕ → Bool) → ((i k : ℕ) → i < 16 → k < 64 → P (i * 64 + k) ≡ true) → all_below P 1024 ≡ true
+by_word P h = all_of P 1024 (λ b l. let e : b / 64 * 64 + b % 64 ≡ b = omega arith in ap P (sym e) ∙ h (b / 64) (b % 64) (omega arith) (omega arith))
+
+module _ (t : List ℕ) (n : ℕ) where
+  pub all_words_below : 16 ≤ n / 64 → only_below t n ≡ true
+  all_words_below h = all_of (below t n) 1024 (λ b l. low_set t n b (omega arith))
+
+  -- where word n / 64 is `first` and the words after it are `rest`
+  module _ (w : IsTable t) (first : ℕ) (rest : List ℕ) (parts : drop (n / 64) t ≡ first ∷ rest) where
+    first_word : first ≡ get_or t (n / 64) 0
+    first_word = ap (λ (s : List ℕ). get_or s 0 0) (sym parts) ∙ get_or-drop (n / 64) t 0 0 ∙ ap (λ (i : ℕ). get_or t i 0) (add-zero (n / 64))
+
+    rest_word : (i : ℕ) → get_or rest i 0 ≡ get_or t (n / 64 + suc i) 0
+    rest_word i = ap (λ (s : List ℕ). get_or s (suc i) 0) (sym parts) ∙ get_or-drop (n / 64) t (suc i) 0
+
+    rest_length : n / 64 + suc (length rest) ≡ 16
+    rest_length = omega (arith, ap length parts, length-drop (n / 64) t, w.size)
+
+    pub first_over : (first / 2 ^ (n % 64) ≡ 0 → ⊥) → only_below t n ≡ false
+    first_over ne =
+        refuted (only_below t n) (λ all. ne (ap (λ (x : ℕ). x / 2 ^ (n % 64)) first_word
+        ∙ word_high t n (n / 64) (n % 64) (omega arith) (λ k p. omega arith) (omega (arith, rest_length)) (w.words (n / 64) (omega (arith, rest_length))) all))
+
+    pub rest_below : first / 2 ^ (n % 64) ≡ 0 → list_all (λ x. eqb x 0) rest ≡ only_below t n
+    rest_below low =
+        same_test (list_all (λ x. eqb x 0) rest) (only_below t n)
+        (λ e. by_word (below t n) (λ i k h l. ⊎_elim
+        (λ (before : i < n / 64). low_set t n (i * 64 + k) (omega arith))
+        (λ after. ⊎_elim
+        (λ (here : i < n / 64 + 1). let z : i ≡ n / 64 = omega arith in
+        word_low_all t n i (n % 64) (λ k p. omega arith) (ap (λ (j : ℕ). get_or t j 0 / 2 ^ (n % 64)) z ∙ ap (λ (x : ℕ). x / 2 ^ (n % 64)) (sym first_word) ∙ low) k l)
+        (λ later. let z : n / 64 + suc (i - n / 64 - 1) ≡ i = omega arith in
+        word_low_all t n i 0 (λ k p. omega arith)
+        (ap (λ (x : ℕ). x / 1) (ap (λ (j : ℕ). get_or t j 0) (sym z) ∙ sym (rest_word (i - n / 64 - 1))
+        ∙ eqb-true (get_or rest (i - n / 64 - 1) 0) 0 (list_true (λ x. eqb x 0) rest 0 e (i - n / 64 - 1) (omega (arith, rest_length))))) k l)
+        (side i (n / 64 + 1)))
+        (side i (n / 64))))
+        (λ all. list_of (λ x. eqb x 0) rest 0 (λ i l. eq-eqb (get_or rest i 0) 0 (rest_word i
+        ∙ sym (div-one (get_or t (n / 64 + suc i) 0))
+        ∙ word_high t n (n / 64 + suc i) 0 (omega arith) (λ k p. omega arith) (omega (arith, rest_length)) (w.words (n / 64 + suc i) (omega (arith, rest_length))) all)))
 
 and_digit : (x y : ℕ) → x < 2 → y < 2 → eqb (bit_and x y) 1 ≡ (eqb x 1 && eqb y 1)
 and_digit zero zero p q = refl
@@ -304,22 +343,46 @@ module _ (t u : List ℕ) (i : ℕ) where
   word_part_all e k p =
       both k p ∙ implied (bit_of (get_or t i 0) k) (bit_of (get_or u i 0) k) (sym (and_bit (get_or t i 0) (get_or u i 0) k) ∙ ap (λ (w : ℕ). bit_of w k) e)
 
-  pub word_part_not : i < 16 → get_or t i 0 < 2 ^ 64 → get_or u i 0 < 2 ^ 64 → (bit_and (get_or t i 0) (get_or u i 0) ≡ get_or t i 0 → ⊥) → part_of t u ≡ false
-  word_part_not h p q ne =
-      refuted (part_of t u) (λ all. ne (word_bits (bit_and (get_or t i 0) (get_or u i 0)) (and_lt 64 (get_or t i 0) (get_or u i 0) p q)
+  pub word_part : i < 16 → get_or t i 0 < 2 ^ 64 → get_or u i 0 < 2 ^ 64 → part_of t u ≡ true → bit_and (get_or t i 0) (get_or u i 0) ≡ get_or t i 0
+  word_part h p q all =
+      word_bits (bit_and (get_or t i 0) (get_or u i 0)) (and_lt 64 (get_or t i 0) (get_or u i 0) p q)
       ∙ word_ext (bit_of (bit_and (get_or t i 0) (get_or u i 0))) (bit_of (get_or t i 0)) 64
       (λ k r. and_bit (get_or t i 0) (get_or u i 0) k
       ∙ implies (bit_of (get_or t i 0) k) (bit_of (get_or u i 0) k) (sym (both k r) ∙ all_true (inside t u) 1024 all (i * 64 + k) (omega arith)))
-      ∙ sym (word_bits (get_or t i 0) p)))
+      ∙ sym (word_bits (get_or t i 0) p)
 
--- ---- one more step of a count
+-- so word by word
+pub words_part : (t u : List ℕ) → IsTable t → IsTable u → list_all (λ p. eqb (bit_and p.0 p.1) p.0) (zip t u) ≡ part_of t u
+words_part t u w v =
+    let test : ℕ × ℕ → Bool = λ p. eqb (bit_and p.0 p.1) p.0 in
+    let at : (i : ℕ) → i < 16 → get_or (zip t u) i (0, 0) ≡ (get_or t i 0, get_or u i 0) = λ i h. get_or-zip t u i (0, 0) (omega (arith, w.size)) (omega (arith, v.size)) in
+    let long : length (zip t u) ≡ 16 = length-zip t u ∙ omega (arith, w.size, v.size) in
+    same_test (list_all test (zip t u)) (part_of t u)
+    (λ e. by_word (inside t u) (λ i k h l. word_part_all t u i
+    (eqb-true (bit_and (get_or t i 0) (get_or u i 0)) (get_or t i 0) (ap test (sym (at i h)) ∙ list_true test (zip t u) (0, 0) e i (omega (arith, long)))) k l))
+    (λ all. list_of test (zip t u) (0, 0) (λ i l. ap test (at i (omega (arith, long)))
+    ∙ eq-eqb (bit_and (get_or t i 0) (get_or u i 0)) (get_or t i 0) (word_part t u i (omega (arith, long)) (w.words i (omega (arith, long))) (v.words i (omega (arith, long))) all)))
 
-pub set_next : (t : List ℕ) (n : ℕ) → set_in t (n + 1) ≡ set_in t n + bits_in (get_or t n 0) 64
+-- ---- the bits of all words, one after the other
+
+set_first : (x : ℕ) (t : List ℕ) (n : ℕ) → set_in (x ∷ t) (suc n) ≡ bits_in x 64 + set_in t n
 unfolding set_in
-set_next t n = ap (set_in t) (add-one n)
+set_first x t zero = omega arith
+set_first x t (suc n) = ap (λ (k : ℕ). k + bits_in (get_or t n 0) 64) (set_first x t n) ∙ omega arith
 
-pub same_end : {i n : ℕ} → i ≤ n → n ≤ i → i ≡ n
-same_end p q = omega arith
+pub set_sum : (t : List ℕ) → set_in t (length t) ≡ sum_by (λ w. bits_in w 64) t
+unfolding set_in
+set_sum [] = refl
+set_sum (x ∷ t) = set_first x t (length t) ∙ ap (λ (n : ℕ). bits_in x 64 + n) (set_sum t) ∙ sym (sum_by-cons (λ w. bits_in w 64) x t)
+
+bits_most : (w n : ℕ) → bits_in w n ≤ n
+unfolding bits_in
+bits_most w zero = omega arith
+bits_most w (suc n) = one_up (bit_of w n) (bits_most w n)
+
+pub sum_bound : (t : List ℕ) → sum_by (λ w. bits_in w 64) t ≤ 64 * length t
+sum_bound [] = omega arith
+sum_bound (x ∷ t) = omega (arith, bits_most x 64, sum_bound t, sum_by-cons (λ w. bits_in w 64) x t)
 
 -- no block from 1,024 on is set
 pub past_bit : (t : List ℕ) (b : ℕ) → length t ≡ 16 → 1024 ≤ b → bit_at t b ≡ false

@@ -11,7 +11,9 @@ use lib.Pow.{shl_exact}
 use lib.Bits.{bit_or, bit_xor, or_shr, or_mod, or_lt, xor_shr, xor_mod, xor_lt}
 use lib.ListN.{get_or, set, replicate, length-set}
 use lib.Seq.{get_or-set_same, get_or-set_other}
-use borrow.Author.Tests.{lt-ltb, le-ltb, le-leb, lt-leb, eq-eqb, ne_eqb}
+use borrow.Author.Tests.{lt-ltb, le-ltb, le-leb, lt-leb, eq-eqb, ne_eqb, eqb-true}
+use Rattle.std.specs.List.{list_all, range_with_len}
+use Rattle.device_words.proofs.ListTests.{same_test, range_true, range_of}
 use Rattle.map_check.proofs.Bools.{or_left, or_right}
 use Rattle.device_words.specs.Table.{IsTable, bit_of, bit_at, word_of, table_of, within, held_in, any_below}
 use Rattle.device_words.proofs.TableLaws.{word_bits, word_lt, word_ext, word_low, word_bit, block, table_ext, held_le, held_all, held_none, zero_word, zero_bit}
@@ -89,30 +91,17 @@ from_upto low end k h =
     (λ ge. simp (le-ltb k low ge, le-leb low k ge))
     (side k low)
 
--- the bits of a run in word i, where `low` and `end` count from the word's first block
-pub run_here : (from n i low end k : ℕ) → low ≡ from - i * 64 → i * 64 + end ≡ from + n → (leb low k && ltb k end) ≡ within from n (i * 64 + k)
-run_here from n i low end k e f = rw (starts, ends)
+-- a word whose bits are all blocks of the run
+pub word_full : (from n i x : ℕ) (on : Bool) → from ≤ i * 64 → i * 64 + 64 ≤ from + n → cond on 18446744073709551615 0 ≡ word_of (λ k. cond (within from n (i * 64 + k)) on (bit_of x k)) 64
+unfolding word_of
+word_full from n i x on p q =
+    go on
+    ∙ word_ext (λ k. on) (λ k. cond (within from n (i * 64 + k)) on (bit_of x k)) 64
+    (λ k r. sym (ap (λ (y : Bool). cond y on (bit_of x k)) (within_in from n (i * 64 + k) (omega arith) (omega arith))))
   where
-    starts : leb low k ≡ leb from (i * 64 + k)
-    starts =
-        ⊎_elim
-        (λ lt. lt-leb low k lt ∙ sym (lt-leb from (i * 64 + k) (omega arith)))
-        (λ ge. le-leb low k ge ∙ sym (le-leb from (i * 64 + k) (omega arith)))
-        (side k low)
-
-    ends : ltb k end ≡ ltb (i * 64 + k) (from + n)
-    ends =
-        ⊎_elim
-        (λ lt. lt-ltb k end lt ∙ sym (lt-ltb (i * 64 + k) (from + n) (omega arith)))
-        (λ ge. le-ltb k end ge ∙ sym (le-ltb (i * 64 + k) (from + n) (omega arith)))
-        (side k end)
-
--- so a word with these bits turned is one with the run's blocks turned
-pub word_here : (from n i low end w x : ℕ) (on : Bool) → low ≡ from - i * 64 → i * 64 + end ≡ from + n → w ≡ word_of (λ k. cond (leb low k && ltb k end) on (bit_of x k)) 64 → w ≡ word_of (λ k. cond (within from n (i * 64 + k)) on (bit_of x k)) 64
-word_here from n i low end w x on e f p =
-    p
-    ∙ word_ext (λ k. cond (leb low k && ltb k end) on (bit_of x k)) (λ k. cond (within from n (i * 64 + k)) on (bit_of x k)) 64
-    (λ k r. ap (λ (y : Bool). cond y on (bit_of x k)) (run_here from n i low end k e f))
+    go : (b : Bool) → cond b 18446744073709551615 0 ≡ word_of (λ k. b) 64
+    go true = omega (arith, word_ones (λ k. true) 64 (λ k r. refl))
+    go false = refl
 
 set_bit : (x y : Bool) → (x || y) ≡ cond y true x
 set_bit true true = refl
@@ -185,28 +174,10 @@ any_free t from n =
     (λ ne. lt-ltb (held_in t from n) n (omega (arith, held_le t from n)) ∙ sym (ap not (ne_eqb (held_in t from n) n ne)))
     (eq_or_not (held_in t from n) n)
 
--- the blocks of a run below word i are on or not
-abbrev pub Alike : List ℕ → ℕ → ℕ → Bool → ℕ → Type 0
-Alike t from n on i = (b : ℕ) → from ≤ b → b < from + n → b < i * 64 → bit_at t b ≡ on
-
+-- a run's blocks in word i turned to `on`
 module _ (t : List ℕ) (from n : ℕ) (on : Bool) where
-  abbrev turned : ℕ → ℕ
-  turned i = word_of (λ k. cond (within from n (i * 64 + k)) on (bit_of (get_or t i 0) k)) 64
-
-  -- no word changed
-  pub alike_next : (i w : ℕ) → w ≡ turned i → w ≡ get_or t i 0 → Alike t from n on i → Alike t from n on (i + 1)
-  alike_next i w e same old b p q r =
-      ⊎_elim (λ lt. old b p q lt)
-      (λ ge. let k = b - i * 64 in
-      let h : k < 64 = omega arith in
-      let at : i * 64 + k ≡ b = omega arith in
-      ap (bit_at t) (sym at) ∙ block t i k h ∙ ap (λ (x : ℕ). bit_of x k) (sym same ∙ e)
-      ∙ word_bit (λ j. cond (within from n (i * 64 + j)) on (bit_of (get_or t i 0) j)) 64 k h
-      ∙ ap (λ (x : Bool). cond x on (bit_of (get_or t i 0) k)) (ap (within from n) at ∙ within_in from n b p q))
-      (side b (i * 64))
-
-  pub alike_all : (i : ℕ) → from + n ≤ i * 64 → Alike t from n on i → eqb (held_in t from n) (cond on n 0) ≡ true
-  alike_all i h all = eq-eqb (held_in t from n) (cond on n 0) (held_of t from n on (λ b p. all (from + b) (omega arith) (omega arith) (omega arith)))
+  abbrev pub turned_word : ℕ → ℕ
+  turned_word i = word_of (λ k. cond (within from n (i * 64 + k)) on (bit_of (get_or t i 0) k)) 64
 
   pub stays : (b : ℕ) → held_in t from n ≡ cond on n 0 → bit_at t b ≡ cond (within from n b) on (bit_at t b)
   stays b e =
@@ -219,12 +190,33 @@ module _ (t : List ℕ) (from n : ℕ) (on : Bool) where
       (side b (from + n)))
       (side b from)
 
-  -- a word changed
-  pub alike_not : (i w : ℕ) → get_or t i 0 < 2 ^ 64 → w ≡ turned i → (w ≡ get_or t i 0 → ⊥) → eqb (held_in t from n) (cond on n 0) ≡ false
-  alike_not i w h e ne =
-      ne_eqb (held_in t from n) (cond on n 0)
-      (λ p. ne (e ∙ sym (word_is (get_or t i 0) (λ k. cond (within from n (i * 64 + k)) on (bit_of (get_or t i 0) k)) h
-      (λ k r. sym (block t i k r) ∙ stays (i * 64 + k) p ∙ ap (λ (x : Bool). cond (within from n (i * 64 + k)) on x) (block t i k r)))))
+  -- then no word changes
+  stays_word : (i : ℕ) → get_or t i 0 < 2 ^ 64 → held_in t from n ≡ cond on n 0 → turned_word i ≡ get_or t i 0
+  stays_word i h p =
+      sym (word_is (get_or t i 0) (λ k. cond (within from n (i * 64 + k)) on (bit_of (get_or t i 0) k)) h
+      (λ k r. sym (block t i k r) ∙ stays (i * 64 + k) p ∙ ap (λ (x : Bool). cond (within from n (i * 64 + k)) on x) (block t i k r)))
+
+  -- the run's blocks in a word that does not change
+  word_on : (i b : ℕ) → turned_word i ≡ get_or t i 0 → from ≤ b → b < from + n → b / 64 ≡ i → bit_at t b ≡ on
+  word_on i b same p q here =
+      let k = b % 64 in
+      let h : k < 64 = omega arith in
+      let at : i * 64 + k ≡ b = omega arith in
+      ap (bit_at t) (sym at) ∙ block t i k h ∙ ap (λ (x : ℕ). bit_of x k) (sym same)
+      ∙ word_bit (λ j. cond (within from n (i * 64 + j)) on (bit_of (get_or t i 0) j)) 64 k h
+      ∙ ap (λ (x : Bool). cond x on (bit_of (get_or t i 0) k)) (ap (within from n) at ∙ within_in from n b p q)
+
+  -- no word of a run changes just where its blocks are all on, or all off
+  pub run_words : (start end : ℕ) → start ≡ from / 64 → end ≡ (from + n + 63) / 64 → IsTable t → from + n ≤ 1024
+      → list_all (λ i. eqb (turned_word i) (get_or t i 0)) (range_with_len start (end - start)) ≡ eqb (held_in t from n) (cond on n 0)
+  run_words start end first last w room =
+      let p : ℕ → Bool = λ i. eqb (turned_word i) (get_or t i 0) in
+      let m = end - start in
+      same_test (list_all p (range_with_len start m)) (eqb (held_in t from n) (cond on n 0))
+      (λ e. eq-eqb (held_in t from n) (cond on n 0) (held_of t from n on (λ b l. let i = (from + b) / 64 in
+      word_on i (from + b) (eqb-true (turned_word i) (get_or t i 0) (range_true p start m e i (omega arith) (omega arith))) (omega arith) (omega arith) refl)))
+      (λ e. range_of p start m (λ i x y. eq-eqb (turned_word i) (get_or t i 0)
+      (stays_word i (w.words i (omega arith)) (eqb-true (held_in t from n) (cond on n 0) e))))
 
 -- ---- the blocks of a run turned to `on`, in the words below word i
 

@@ -4,3 +4,4 @@ pub mod Device
 pub mod Request
 pub mod Words
 pub mod Promises
+pub mod Asked

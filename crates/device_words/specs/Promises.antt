@@ -1,5 +1,5 @@
 -- What the functions inside the crate, and those over it, promise each other. Assumes nothing: these are definitions.
-use Rattle.std.specs.Prelude.{Bool, true, false, ◌&&◌, ◌||◌, List, ◌≡◌, ℕ, ◌+◌, ◌*◌, ◌/◌, ◌%◌, ◌≤◌, ◌<◌, eqb, leb, length}
+use Rattle.std.specs.Prelude.{Bool, true, ◌&&◌, ◌||◌, List, ◌≡◌, ℕ, ◌+◌, ◌*◌, ◌/◌, ◌%◌, ◌≤◌, ◌<◌, eqb, leb, length}
 use Rattle.map_records.specs.Limits.{limit}
 use Rattle.device_words.specs.Table.{most_blocks, bit_at, only, implies}
 use Rattle.device_words.specs.Bytes.{response_bytes}
@@ -8,8 +8,6 @@ use Rattle.device_words.specs.Request.{request_of, unplug_type, unplug_all_type,
 use Rattle.device_words.specs.Words.{device_at, device_of, device_words, device_length}
 use Rattle.device_words.specs.declared.words.Sizes.{Sizes}
 use Rattle.device_words.specs.declared.request.Request.{Request}
-use Rattle.device_words.specs.declared.answer.Asked.{Asked}
-use Rattle.device_words.specs.declared.answer.Asked.TheVariants as asked
 
 -- every block that is set is below n; is set in the other table too
 abbrev pub only_below : List ℕ → ℕ → Bool
@@ -56,11 +54,6 @@ pub record RunOf (s : Sizes) (r : Request) (b n : ℕ) : Type 0 where
   pub first : b ≡ asked_from s r
   pub count : n ≡ asked_count r
   pub room : b + n ≤ most_blocks
-
--- what was found of the blocks that a request asks for
-abbrev pub AsksFor : Sizes → Request → Asked → Type 0
-AsksFor s r asked.Outside = answerable s r ≡ false
-AsksFor s r (asked.Run b n) = RunOf s r b.0 n
 
 -- pins matter to an UNPLUG and an UNPLUG ALL
 abbrev pub unplugs : ℕ → Bool

@@ -1,10 +1,13 @@
 -- The guest's requests: the range rule, the order of the checks, and the change of the table, each by itself. Assumes nothing: these are definitions.
-use Rattle.std.specs.Prelude.{Bool, true, false, cond, ◌&&◌, List, ◌++◌, ℕ, ◌+◌, ◌-◌, ◌*◌, ◌/◌, ◌%◌, eqb, leb, ltb, replicate}
+use Rattle.std.specs.Prelude.{◌≡◌, ◌<◌, Result, MatchResult, Bool, true, false, cond, ◌&&◌, List, ◌++◌, ℕ, ◌+◌, ◌-◌, ◌*◌, ◌/◌, ◌%◌, eqb, leb, ltb, replicate}
 use Rattle.map_check.specs.Reply.{Reply, accepted}
 use Rattle.device_words.specs.Bytes.{le, le_number, response_bytes}
 use Rattle.device_words.specs.Table.{turned, held_in, most_blocks}
 use Rattle.device_words.specs.Device.{MemoryDevice, any_pinned, no_plugs, sizes_of, with_plugged, size_in}
 use Rattle.device_words.specs.declared.words.Sizes.{Sizes}
+use Rattle.device_words.specs.declared.request.RequestKind.{RequestKind}
+use Rattle.device_words.specs.declared.request.RequestKind.TheVariants as kind
+use Rattle.device_words.specs.declared.request.UnknownRequest.{UnknownRequest}
 use Rattle.device_words.specs.declared.request.Request.{Request}
 use Rattle.device_words.specs.declared.request.Response.{Response}
 use Rattle.device_words.specs.declared.request.Response.TheVariants as response
@@ -21,6 +24,16 @@ unplug_all_type = 2
 
 abbrev pub state_type : ℕ
 state_type = 3
+
+-- the number of each type, and which numbers decode to which
+abbrev pub type_number : RequestKind → ℕ
+type_number kind.Plug = plug_type
+type_number kind.Unplug = unplug_type
+type_number kind.UnplugAll = unplug_all_type
+type_number kind.State = state_type
+
+abbrev pub Decodes : ℕ → Result RequestKind UnknownRequest → Type 0
+Decodes n r = MatchResult r (λ k. n ≡ type_number k) (λ e. state_type < n)
 
 -- 'Requests: 24 bytes .. little-endian; padding is ignored in': source 000's layout
 abbrev pub request_of : List ℕ → Request
@@ -94,6 +107,13 @@ unplug_all_answer held = cond held response.Busy response.Ack
 abbrev pub state_answer : List ℕ → ℕ → ℕ → Response
 state_answer t b n = cond (eqb (held_in t b n) n) response.Plugged (cond (eqb (held_in t b n) 0) response.Unplugged response.Mixed)
 
+-- the answer to a request of a type for the n blocks from b on, which it may ask for
+abbrev pub asked_answer : Sizes → Bool → List ℕ → RequestKind → ℕ → ℕ → Response
+asked_answer s held t kind.Plug b n = plug_answer response.Ack s t b n
+asked_answer s held t kind.Unplug b n = unplug_answer held t b n
+asked_answer s held t kind.UnplugAll b n = unplug_all_answer held
+asked_answer s held t kind.State b n = state_answer t b n
+
 -- an answer for the blocks of a request in range
 abbrev pub ranged : Sizes → Request → (ℕ → ℕ → Response) → Response
 ranged s r f = cond (in_range s r) (f (block_of s r.addr.0) r.blocks) response.Error
@@ -127,6 +147,10 @@ is_ack response.Mixed = false
 -- only an acknowledgement changes the table
 unfoldable pub table_by : Sizes → List ℕ → Request → Response → List ℕ
 table_by s t r x = cond (is_ack x) (table_after_ack s t r) t
+
+-- the table after the answer x to a request of a type for the n blocks from b on: an acknowledged one is a PLUG, or clears them
+abbrev pub asked_table : List ℕ → RequestKind → ℕ → ℕ → Response → List ℕ
+asked_table t k b n x = cond (is_ack x) (turned t b n (eqb (type_number k) plug_type)) t
 
 -- ---- of a device
 

@@ -2,10 +2,9 @@
 ghost use Rattle.std.specs.Prelude.{◌≡◌, ◌-◌, ◌/◌, ◌≤◌, ◌<◌, min};
 
 use map_records::map::{GuestAddress, RegionOffset};
-use map_records::numbers::least;
 
 // Document 01's block number.
-#[derive(Clone, Copy)]
+#[derive(Clone, Copy, Debug, PartialEq, Eq)]
 pub struct BlockNumber(pub u16);
 
 // 'Block of a byte = its offset in the managed node divided by the block size.'
@@ -22,8 +21,7 @@ pub fn block_of_request(block_size: u64, addr: GuestAddress, address: GuestAddre
     requires { (0 < block_size) × (addr.0 ≤ address.0) × ((address.0 - addr.0) / block_size < 65536) }
     ensures { result.0 ≡ (address.0 - addr.0) / block_size }
 {
-    let block = (address.0 - addr.0) / block_size;
-    BlockNumber(block as u16)
+    block_of(block_size, RegionOffset(address.0 - addr.0))
 }
 
 // The largest block number that can be written: no region has it.
@@ -33,6 +31,6 @@ const LAST: u64 = 65535;
 pub fn block_of_host(number: u64) -> BlockNumber
     ensures { result.0 ≡ min number 65535 }
 {
-    let block = least(number, LAST);
+    let block = number.min(LAST);
     BlockNumber(block as u16)
 }

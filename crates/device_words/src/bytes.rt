@@ -4,7 +4,6 @@ ghost use Rattle.std.proofs.lemmas.List.Edits.{sets};
 ghost use Rattle.device_words.specs.Bytes.{le, le_number, response_bytes, configuration_bytes, configuration_length};
 
 use map_records::map::GuestAddress;
-use map_records::numbers::wide;
 
 // The bytes of a request, of a response and of the configuration.
 pub const REQUEST_BYTES: usize = 24;
@@ -18,37 +17,18 @@ pub fn number_at(bytes: &[u8], at: usize, k: usize) -> u64
     requires { (k ≤ 8) × (at + k ≤ length bytes.now) }
     ensures { (result ≡ le_number bytes.now at k) × (result < 256 ^ k) }
 {
-    let mut value: u64 = 0;
-    let mut i = k;
-    while 0 < i {
-        i -= 1;
-        value = value * 256 + wide(bytes[at + i]);
-    }
-    value
-}
-
-// Bytes laid over as many others.
-pub fn copy_bytes(to: &mut [u8], from: &[u8])
-    requires { length to.old ≡ length from.now }
-    ensures { to.new ≡ from.now }
-{
-    let mut i: usize = 0;
-    while i < from.len() {
-        to[i] = from[i];
-        i += 1;
-    }
+    let mut eight = [0; 8];
+    eight[..k].copy_from_slice(&bytes[at..at + k]);
+    u64::from_le_bytes(eight)
 }
 
 // A response's bytes.
 pub fn response_bytes(kind: u16, state: u16) -> [u8; RESPONSE_BYTES]
     ensures { result ≡ response_bytes kind state }
 {
-    let mut out = [0u8; RESPONSE_BYTES];
-    out[0] = (kind % 256) as u8;
-    out[1] = (kind / 256) as u8;
-    out[8] = (state % 256) as u8;
-    out[9] = (state / 256) as u8;
-    out
+    let [kind_low, kind_high] = kind.to_le_bytes();
+    let [state_low, state_high] = state.to_le_bytes();
+    [kind_low, kind_high, 0, 0, 0, 0, 0, 0, state_low, state_high]
 }
 
 // The eight bytes of a number, stored from a place on.
@@ -56,13 +36,7 @@ fn put(out: &mut [u8], at: usize, n: u64)
     requires { at + 8 ≤ length out.old }
     ensures { out.new ≡ sets out.old at (le 8 n) }
 {
-    let mut rest = n;
-    let mut i = 0;
-    while i < 8 {
-        out[at + i] = (rest % 256) as u8;
-        rest = rest / 256;
-        i += 1;
-    }
+    out[at..at + 8].copy_from_slice(&n.to_le_bytes());
 }
 
 // The configuration's bytes. The second eight are node_id and padding.

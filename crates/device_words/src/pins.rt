@@ -1,20 +1,20 @@
 // The pins of a device: asked for a run of blocks, set or cleared for one, and held against the plug table.
-ghost use Rattle.std.specs.Prelude.{◌≡◌, true, ◌+◌, ◌≤◌, ◌<◌, length};
+ghost use Rattle.std.specs.Prelude.{◌≡◌, true, ◌<◌, length};
 ghost use Rattle.device_words.specs.Table.{bit_at, implies, most_blocks};
 ghost use Rattle.device_words.specs.Device.{is_pinned, any_pinned};
 ghost use Rattle.device_words.specs.Words.{device_at, device_length};
 ghost use Rattle.device_words.specs.Promises.{pin_words};
 
 use crate::block::BlockNumber;
-use crate::table::{BLOCKS, none_set, part_of, with_run};
+use crate::table::{BLOCKS, BlockRun, none_set, part_of, with_run};
 use crate::words::{DEVICE_WORDS, PINNED, PLUGGED};
 
-// Is one of the n blocks from `from` on pinned? One block is a run of 1, and all are 1,024.
-pub fn any_pinned(device: &[u64], from: BlockNumber, n: usize) -> bool
-    requires { (length device.now ≡ device_length) × (from.0 + n ≤ most_blocks) }
-    ensures { result ≡ any_pinned (device_at device.now) from.0 n }
+// Is one of a run's blocks pinned? One block is a run of 1, and all are 1,024.
+pub fn any_pinned(device: &[u64], run: BlockRun) -> bool
+    requires { length device.now ≡ device_length }
+    ensures { result ≡ any_pinned (device_at device.now) run.first.0 run.count }
 {
-    !none_set(&device[PINNED..DEVICE_WORDS], from, n)
+    !none_set(&device[PINNED..DEVICE_WORDS], run)
 }
 
 // Is a block pinned? None is from 1,024 on.
@@ -23,10 +23,7 @@ pub fn is_pinned(device: &[u64], b: BlockNumber) -> bool
     ensures value { result ≡ is_pinned (device_at device.now) b.0 }
     ensures room { result ≡ true → b.0 < most_blocks }
 {
-    if (b.0 as usize) < BLOCKS {
-        return any_pinned(device, b, 1);
-    }
-    false
+    usize::from(b.0) < BLOCKS && any_pinned(device, BlockRun { first: b, count: 1 })
 }
 
 // Is every pinned block plugged?
@@ -42,5 +39,9 @@ pub fn set_pin(device: &mut [u64], b: BlockNumber, on: bool)
     requires { (length device.old ≡ device_length) × (b.0 < most_blocks) }
     ensures { device.new ≡ pin_words device.old b.0 on }
 {
-    with_run(&mut device[PINNED..DEVICE_WORDS], b, 1, on);
+    with_run(
+        &mut device[PINNED..DEVICE_WORDS],
+        BlockRun { first: b, count: 1 },
+        on,
+    );
 }

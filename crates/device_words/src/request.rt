@@ -1,13 +1,52 @@
 // The guest's requests.
 ghost use Rattle.std.specs.Prelude.{◌≡◌, ◌<◌};
 ghost use Rattle.device_words.specs.Bytes.{response_bytes};
-ghost use Rattle.device_words.specs.Request.{request_of, type_of, state_of};
+ghost use Rattle.device_words.specs.Request.{type_number, Decodes, request_of, type_of, state_of};
+ghost use Rattle.device_words.specs.Promises.{unplugs};
 
 use crate::bytes::{REQUEST_BYTES, RESPONSE_BYTES, number_at, response_bytes};
 use map_records::map::GuestAddress;
 
-// A request of the guest, as its bytes have it.
-#[derive(Clone, Copy)]
+// What a request asks. What the code does by a request's type, it does by this type.
+#[derive(Clone, Copy, Debug, PartialEq, Eq)]
+pub enum RequestKind {
+    Plug,
+    Unplug,
+    UnplugAll,
+    State,
+}
+
+// A number that is no type of request.
+#[derive(Clone, Copy, Debug, PartialEq, Eq)]
+pub struct UnknownRequest(pub u64);
+
+impl TryFrom<u64> for RequestKind {
+    type Error = UnknownRequest;
+
+    ghost try_from_gives = { Decodes };
+
+    fn try_from(number: u64) -> Result<Self, UnknownRequest> {
+        match number {
+            0 => Ok(RequestKind::Plug),
+            1 => Ok(RequestKind::Unplug),
+            2 => Ok(RequestKind::UnplugAll),
+            3 => Ok(RequestKind::State),
+            _ => Err(UnknownRequest(number)),
+        }
+    }
+}
+
+impl RequestKind {
+    // Does a pin of one of its blocks matter to it?
+    pub fn unplugs(self) -> bool
+        ensures { result ≡ unplugs (type_number self) }
+    {
+        matches!(self, RequestKind::Unplug | RequestKind::UnplugAll)
+    }
+}
+
+// A request of the guest, as its bytes have it: any number may come as its type.
+#[derive(Clone, Copy, Debug, PartialEq, Eq)]
 pub struct Request {
     pub kind: u64,
     pub addr: GuestAddress,
@@ -15,7 +54,7 @@ pub struct Request {
 }
 
 // The device's answer. The last three acknowledge a STATE.
-#[derive(Clone, Copy)]
+#[derive(Clone, Copy, Debug, PartialEq, Eq)]
 pub enum Response {
     Ack,
     Nack,
@@ -30,41 +69,35 @@ pub enum Response {
 pub fn request_of(bytes: [u8; REQUEST_BYTES]) -> Request
     ensures { (result ≡ request_of bytes) × (result.blocks < 65536) }
 {
-    let kind = number_at(&bytes, 0, 2);
-    let addr = number_at(&bytes, 8, 8);
-    let blocks = number_at(&bytes, 16, 2);
     Request {
-        kind: kind,
-        addr: GuestAddress(addr),
-        blocks: blocks,
+        kind: number_at(&bytes, 0, 2),
+        addr: GuestAddress(number_at(&bytes, 8, 8)),
+        blocks: number_at(&bytes, 16, 2),
     }
 }
 
-fn type_of(response: Response) -> u16
-    ensures { result ≡ type_of response }
-{
-    match response {
-        Response::Ack => 0,
-        Response::Nack => 1,
-        Response::Busy => 2,
-        Response::Error => 3,
-        Response::Plugged => 0,
-        Response::Unplugged => 0,
-        Response::Mixed => 0,
+impl Response {
+    // The response's type in its bytes: each acknowledgement has one number.
+    fn type_of(self) -> u16
+        ensures { result ≡ type_of self }
+    {
+        match self {
+            Response::Ack | Response::Plugged | Response::Unplugged | Response::Mixed => 0,
+            Response::Nack => 1,
+            Response::Busy => 2,
+            Response::Error => 3,
+        }
     }
-}
 
-fn state_of(response: Response) -> u16
-    ensures { result ≡ state_of response }
-{
-    match response {
-        Response::Ack => 0,
-        Response::Nack => 0,
-        Response::Busy => 0,
-        Response::Error => 0,
-        Response::Plugged => 0,
-        Response::Unplugged => 1,
-        Response::Mixed => 2,
+    // The state in its bytes, which is 0 but in an acknowledged STATE.
+    fn state_of(self) -> u16
+        ensures { result ≡ state_of self }
+    {
+        match self {
+            Response::Unplugged => 1,
+            Response::Mixed => 2,
+            _ => 0,
+        }
     }
 }
 
@@ -72,7 +105,5 @@ fn state_of(response: Response) -> u16
 pub fn answer_bytes(response: Response) -> [u8; RESPONSE_BYTES]
     ensures { result ≡ response_bytes (type_of response) (state_of response) }
 {
-    let kind = type_of(response);
-    let state = state_of(response);
-    response_bytes(kind, state)
+    response_bytes(response.type_of(), response.state_of())
 }

@@ -14,21 +14,13 @@ use map_records::numbers::{LIMIT, sum_within};
 
 const SMALLEST_BLOCK: u64 = 4096;
 
-// The powers of two from that to 2^30.
-const BLOCK_SIZES: usize = 19;
+const LARGEST_BLOCK: u64 = 1073741824;
 
 // Is the block size a power of two from 4,096 to 2^30?
 fn block_ok(block: u64) -> bool
     ensures { result ≡ block_ok block }
 {
-    let mut power = SMALLEST_BLOCK;
-    for k in 0..BLOCK_SIZES {
-        if block == power {
-            return true;
-        }
-        power *= 2;
-    }
-    false
+    (SMALLEST_BLOCK <= block) & (block <= LARGEST_BLOCK) & block.is_power_of_two()
 }
 
 fn region_ok(block: u64, region: u64) -> bool
@@ -56,11 +48,9 @@ fn sizes_ok(block: u64, region: u64, usable: u64, requested: u64) -> bool
 pub fn setup_ok(block: u64, addr: GuestAddress, region: u64, usable: u64, requested: u64) -> bool
     ensures { result ≡ setup_ok block addr.0 region usable requested }
 {
-    if block_ok(block) {
-        return region_ok(block, region)
-            & (addr_ok(block, addr, region) & sizes_ok(block, region, usable, requested));
-    }
-    false
+    block_ok(block)
+        && region_ok(block, region)
+            & (addr_ok(block, addr, region) & sizes_ok(block, region, usable, requested))
 }
 
 // 27's rules over the two tables: what is plugged lies in the usable part, and what is pinned is
@@ -77,17 +67,13 @@ fn tables_ok(device: &[u64]) -> bool
 pub fn device_ok(device: &[u64]) -> bool
     ensures { result ≡ (is_device device.now && device_ok (device_of device.now)) }
 {
-    if device.len() == DEVICE_WORDS {
-        let addr = GuestAddress(device[ADDR]);
-        if setup_ok(
+    device.len() == DEVICE_WORDS
+        && setup_ok(
             device[BLOCK_SIZE],
-            addr,
+            GuestAddress(device[ADDR]),
             device[REGION_SIZE],
             device[USABLE_SIZE],
             device[REQUESTED_SIZE],
-        ) {
-            return tables_ok(device);
-        }
-    }
-    false
+        )
+        && tables_ok(device)
 }

@@ -1,30 +1,31 @@
-// A table of 1,024 blocks in sixteen lent words. A run of blocks is its first one, and how many they are.
-ghost use Rattle.std.specs.Prelude.{◌≡◌, cond, ◌&&◌, ◌+◌, ◌≤◌, eqb, leb, ltb, length, replicate};
-ghost use Rattle.device_words.specs.Table.{bit_of, bit_at, word_of, turned, held_in, bits_in, set_in, most_blocks, table_length};
+// A table of 1,024 blocks in sixteen lent words, and runs of its blocks.
+ghost use Rattle.std.specs.Prelude.{◌≡◌, cond, ◌&&◌, ◌+◌, ◌*◌, ◌/◌, ◌≤◌, eqb, leb, ltb, length, replicate};
+ghost use Rattle.device_words.specs.Table.{bit_of, bit_at, word_of, turned, within, held_in, bits_in, set_in, most_blocks, table_length};
 ghost use Rattle.device_words.specs.Promises.{only_below, part_of};
 
 use crate::block::BlockNumber;
+use std::ops::Range;
+
+// A run of blocks of a table: its first one, and how many they are.
+#[derive(Clone, Copy, Debug, PartialEq, Eq)]
+pub struct BlockRun {
+    pub first: BlockNumber,
+    pub count: usize,
+    pub ghost room: { first.0 + count ≤ most_blocks },
+}
 
 // The most blocks of a region, and the words of their table.
 pub const BLOCKS: usize = 1024;
 
 pub const TABLE_WORDS: usize = 16;
 
-// Every bit of a word.
-const ALL: u64 = 0xffff_ffff_ffff_ffff;
-
 // Is block b set? None is from 1,024 on.
 pub fn is_in(words: &[u64], block: BlockNumber) -> bool
     requires { length words.now ≡ table_length }
     ensures { result ≡ bit_at words.now block.0 }
 {
-    let b = block.0 as usize;
-    if b < BLOCKS {
-        let word = words[b / 64];
-        let k = (b % 64) as u64;
-        return (word >> k) % 2 == 1;
-    }
-    false
+    let b = usize::from(block.0);
+    b < BLOCKS && (words[b / 64] >> (b % 64) as u64) % 2 == 1
 }
 
 // The bits of a word below bit b.
@@ -32,9 +33,10 @@ fn bits_below(b: usize) -> u64
     ensures { result ≡ word_of (λ k. ltb k b) 64 }
 {
     if 64 <= b {
-        return ALL;
+        u64::MAX
+    } else {
+        (1 << (b as u64)) - 1
     }
-    (1 << (b as u64)) - 1
 }
 
 // A word, with its bits from `low` on and below `end` set or not.
@@ -46,31 +48,42 @@ fn word_with(word: u64, low: usize, end: usize, on: bool) -> u64
     let before = bits_below(low);
     let run = upto ^ before;
     let set = word | run;
-    if on {
-        return set;
-    }
-    set ^ run
+    if on { set } else { set ^ run }
 }
 
-// The n blocks from `first` on are set or not, where they lie. `low` and `end` count from the first block of word i.
-pub fn with_run(words: &mut [u64], first: BlockNumber, n: usize, on: bool)
-    requires { (length words.old ≡ table_length) × (first.0 + n ≤ most_blocks) }
-    ensures { words.new ≡ turned words.old first.0 n on }
-{
-    let from = first.0 as usize;
-    let mut i = from / 64;
-    let mut low = from % 64;
-    let mut end = low + n;
-    while 0 < end {
-        let word = words[i];
-        let turned = word_with(word, low, end, on);
-        words[i] = turned;
-        if end <= 64 {
-            return;
+impl BlockRun {
+    // The words in which its blocks lie.
+    fn words(self) -> Range<usize>
+        ensures start { result.start ≡ self.first.0 / 64 }
+        ensures end { result.end ≡ (self.first.0 + self.count + 63) / 64 }
+    {
+        let first = usize::from(self.first.0);
+        first / 64..(first + self.count + 63) / 64
+    }
+
+    // Word i of a table, where the run's blocks in it are set or not. The run does not end before the word.
+    fn turned(self, i: usize, word: u64, on: bool) -> u64
+        requires { i * 64 ≤ self.first.0 + self.count }
+        ensures { result ≡ word_of (λ k. cond (within self.first.0 self.count (i * 64 + k)) on (bit_of word k)) 64 }
+    {
+        let before = i * 64;
+        let first = usize::from(self.first.0);
+        let end = first + self.count - before;
+        if first <= before && 64 <= end {
+            return if on { u64::MAX } else { 0 };
         }
-        end -= 64;
-        low = 0;
-        i += 1;
+        word_with(word, first.saturating_sub(before), end, on)
+    }
+}
+
+// The blocks of a run are set or not, where they lie.
+pub fn with_run(words: &mut [u64], run: BlockRun, on: bool)
+    requires { length words.old ≡ table_length }
+    ensures { words.new ≡ turned words.old run.first.0 run.count on }
+{
+    // A word's number says which of its bits are the run's blocks, so the loop counts it.
+    for i in run.words() {
+        words[i] = run.turned(i, words[i], on);
     }
 }
 
@@ -79,48 +92,31 @@ pub fn clear(words: &mut [u64])
     requires { length words.old ≡ table_length }
     ensures { words.new ≡ replicate table_length 0 }
 {
-    with_run(words, BlockNumber(0), BLOCKS, false);
+    words.fill(0);
 }
 
-// Are the n blocks from `first` on all set, or all not set? Then turning them so changes no word.
-fn run_is(words: &[u64], first: BlockNumber, n: usize, on: bool) -> bool
-    requires { (length words.now ≡ table_length) × (first.0 + n ≤ most_blocks) }
-    ensures { result ≡ eqb (held_in words.now first.0 n) (cond on n 0) }
+// Are the blocks of a run all set, or all not set? Then turning them so changes no word.
+fn run_is(words: &[u64], run: BlockRun, on: bool) -> bool
+    requires { length words.now ≡ table_length }
+    ensures { result ≡ eqb (held_in words.now run.first.0 run.count) (cond on run.count 0) }
 {
-    let from = first.0 as usize;
-    let mut i = from / 64;
-    let mut low = from % 64;
-    let mut end = low + n;
-    while 0 < end {
-        let word = words[i];
-        let turned = word_with(word, low, end, on);
-        if turned != word {
-            return false;
-        }
-        if end <= 64 {
-            return true;
-        }
-        end -= 64;
-        low = 0;
-        i += 1;
-    }
-    true
+    run.words().all(|i| run.turned(i, words[i], on) == words[i])
 }
 
-// Is none of the n blocks from `first` on set?
-pub fn none_set(words: &[u64], first: BlockNumber, n: usize) -> bool
-    requires { (length words.now ≡ table_length) × (first.0 + n ≤ most_blocks) }
-    ensures { result ≡ eqb (held_in words.now first.0 n) 0 }
+// Is none of the blocks of a run set?
+pub fn none_set(words: &[u64], run: BlockRun) -> bool
+    requires { length words.now ≡ table_length }
+    ensures { result ≡ eqb (held_in words.now run.first.0 run.count) 0 }
 {
-    run_is(words, first, n, false)
+    run_is(words, run, false)
 }
 
-// Is each of the n blocks from `first` on set?
-pub fn all_set(words: &[u64], first: BlockNumber, n: usize) -> bool
-    requires { (length words.now ≡ table_length) × (first.0 + n ≤ most_blocks) }
-    ensures { result ≡ eqb (held_in words.now first.0 n) n }
+// Is each of the blocks of a run set?
+pub fn all_set(words: &[u64], run: BlockRun) -> bool
+    requires { length words.now ≡ table_length }
+    ensures { result ≡ eqb (held_in words.now run.first.0 run.count) run.count }
 {
-    run_is(words, first, n, true)
+    run_is(words, run, true)
 }
 
 // How many bits of a word are set, by the language's own count of ones. That it is this number is proved once, for every
@@ -138,11 +134,7 @@ pub fn total(words: &[u64]) -> u64
     requires { length words.now ≡ table_length }
     ensures { (result ≡ set_in words.now table_length) × (result ≤ most_blocks) }
 {
-    let mut count: u64 = 0;
-    for i in 0..TABLE_WORDS {
-        count += ones(words[i]);
-    }
-    count
+    words.iter().map(|word| ones(*word)).sum()
 }
 
 // Is every block that is set below n? The words before that of block n have none but such; of that word the bits from
@@ -151,14 +143,11 @@ pub fn only_below(words: &[u64], n: usize) -> bool
     requires { (length words.now ≡ table_length) × (n ≤ most_blocks) }
     ensures { result ≡ only_below words.now n }
 {
-    let mut low = (n % 64) as u64;
-    for i in n / 64..TABLE_WORDS {
-        if (words[i] >> low) != 0 {
-            return false;
-        }
-        low = 0;
-    }
-    true
+    let low = (n % 64) as u64;
+    let Some((first, rest)) = words[n / 64..].split_first() else {
+        return true;
+    };
+    (*first >> low) == 0 && rest.iter().all(|word| *word == 0)
 }
 
 // Is every block that is set also set in the other table?
@@ -166,11 +155,8 @@ pub fn part_of(words: &[u64], whole: &[u64]) -> bool
     requires { (length words.now ≡ table_length) × (length whole.now ≡ table_length) }
     ensures { result ≡ part_of words.now whole.now }
 {
-    for i in 0..TABLE_WORDS {
-        let word = words[i];
-        if (word & whole[i]) != word {
-            return false;
-        }
-    }
-    true
+    words
+        .iter()
+        .zip(whole)
+        .all(|(word, other)| *word & *other == *word)
 }

@@ -23,7 +23,7 @@ pub const PINNED: usize = 21;
 pub const DEVICE_WORDS: usize = 37;
 
 // The sizes and the address by which requests are answered.
-#[derive(Clone, Copy)]
+#[derive(Clone, Copy, Debug, PartialEq, Eq)]
 pub struct Sizes {
     pub block_size: u64,
     pub addr: GuestAddress,

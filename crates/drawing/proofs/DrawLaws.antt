@@ -1,37 +1,35 @@
 -- Laws of the drawing: where addresses lie to a region, and the text, character by character and row by row. Assumes nothing.
-use mathlib.Core.Path.{◌≡◌, refl, sym, ap, ap₂, ◌∙◌}
+use mathlib.Core.Path.{◌≡◌, refl, sym, ap, ◌∙◌}
 use mathlib.Core.Bool.{Bool, true, false, cond}
-use mathlib.Core.List.{List, [], ◌∷◌}
+use mathlib.Core.List.{List, [], ◌∷◌, ◌++◌}
 use mathlib.Core.Logic.{⊎_elim}
 use Prim.Native.Nat.{ℕ, zero, suc, ◌+◌, ◌-◌, ◌*◌, ◌^◌, ◌≤◌, ◌<◌, min}
 use native.Mathlib.Nat.{mul-le-mul}
 use native.Mathlib.Numerals.{add-one}
 use native.Mathlib.Omega.{arith}
 use lib.Dec.{eqb, ltb}
-use lib.ListN.{length, set, get_or, length-append}
-use lib.Seq.{sets}
+use lib.ListN.{length, length-append}
 use borrow.Author.Tests.{lt-ltb, le-ltb, eq-eqb, ne_eqb, eqb-false}
 use Rattle.map_records.specs.Map.{region}
 use Rattle.map_check.specs.Fault.{parent_of}
 use Rattle.region_map.specs.Walk.{walk_root}
 use Rattle.region_map.specs.Resolve.{refused, leads, resolved, led_by}
-use Rattle.map_check.specs.Check.{reply, Accepted}
-use Rattle.map_check.specs.declared.check.MapAnswer.{MapAnswer}
-use Rattle.region_map.specs.declared.resolve.Resolved.{Resolved}
-use Rattle.region_map.specs.declared.resolve.Resolution.{Resolution}
-use Rattle.region_map.specs.declared.resolve.Resolution.TheVariants.{Refused, Answered}
+use Rattle.std.specs.Prelude.{Option, Result, Ok, Err}
+use Rattle.map_check.specs.Check.{fault_reply, Accepted}
+use Rattle.map_check.specs.declared.check.MapFault.{MapFault}
+use Rattle.map_records.specs.declared.map.Found.{Found}
 use Rattle.map_records.specs.declared.map.Region.{Region}
 use Rattle.map_records.specs.declared.map.RegionMap.{RegionMap}
 use Rattle.map_records.specs.Words.{map_of}
 use Rattle.map_check.proofs.Accepted.{accepted_sound}
 use Rattle.map_check.proofs.MapWords.{accepted_words}
 use Rattle.map_records.proofs.Order.{eq_or_not}
-use Rattle.map_records.proofs.StoreLaws.{sets_append}
-use Rattle.listing.proofs.TextLaws.{store_next}
 use Rattle.drawing.specs.Drawing.{row_at, RowIn, column_address, region_cell, character, characters, row_text, rows_text}
 use Rattle.drawing.specs.declared.row.Row.{Row}
 use Rattle.drawing.specs.declared.row.Row.TheVariants as row
 use Rattle.drawing.specs.Position.{entered, below, climb, located, Climbable, Drawable}
+use Rattle.map_records.specs.declared.map.RegionOffset.{RegionOffset}
+use Rattle.drawing.specs.declared.position.Position.{Position}
 use Rattle.drawing.specs.declared.position.Position.TheVariants.{Aside, Outside, Inside}
 
 -- what acceptance gives
@@ -59,6 +57,12 @@ module _ (r : Region) (first end from to : ℕ) (p : from ≡ first - r.offset) 
   pub entered_not : to ≤ from → Outside ≡ entered r first end
   unfolding entered
   entered_not h = rw (← p, ← q, le-ltb from to h)
+
+-- what lies in no part of a parent lies in no part of its child
+pub below_outside : (r : Region) (p : Position) → ((x y : RegionOffset) → p ≡ Inside x y → ⊥) → below r p ≡ p
+below_outside r Aside h = refl
+below_outside r Outside h = refl
+below_outside r (Inside x y) h = absurd (h x y refl)
 
 -- one region asked
 module _ (m : RegionMap) (a b k n : ℕ) where
@@ -104,29 +108,19 @@ module _ (m : RegionMap) (a b : ℕ) (w : Climbable m) where
         rw e
         (climb_below m a b 31 n p ∙ ap (below (region m n)) (enough 31 32 (parent_of (region m n)) (w.below n h p) (omega (arith, w.count)) (omega (arith, w.count))))
 
--- an element of a list is there whatever stands for one past its end
-pub get_d_any : (l : List ℕ) (i d e : ℕ) → i < length l → get_or l i d ≡ get_or l i e
-get_d_any [] i d e h = absurd (omega arith)
-get_d_any (x ∷ l) zero d e h = refl
-get_d_any (x ∷ l) (suc i) d e h = get_d_any l i d e (omega arith)
-
 -- a region's cell, its addresses given by equal numbers
 pub region_at_lem : (m : RegionMap) (n c x y a b r : ℕ) → r ≡ region_cell m n x y c → x ≡ a → y ≡ b → r ≡ region_cell m n a b c
 region_at_lem m n c x y a b r e p q = rw (← p, ← q) e
 
 -- what the public walk says of an accepted map
-module _ (m : RegionMap) (memory a : ℕ) (r : Resolution) (ok : Accepted m memory) (e : led_by r ≡ resolved m memory a) where
-  pub led_to : (x : Resolved) → r ≡ Answered x → walk_root m a ≡ x
-  unfolding resolved Accepted
-  led_to x p =
-      let q : leads x ≡ leads (walk_root m a) = rw (p, ok) at e in
-      cc
-
-  pub not_refused : (y : MapAnswer) → r ≡ Refused y → ⊥
-  unfolding resolved Accepted
-  not_refused y p =
-      let q : refused (reply y) ≡ leads (walk_root m a) = rw (p, ok) at e in
-      let z : ◌≡◌ {A = ℕ} 0 1 = cc in omega arith
+pub led_to : (m : RegionMap) (memory a : ℕ) (r : Result (Option Found) MapFault) → Accepted m memory → led_by r ≡ resolved m memory a → r ≡ Ok (walk_root m a)
+unfolding resolved Accepted
+led_to m memory a (Ok x) ok e =
+    let q : leads x ≡ leads (walk_root m a) = rw ok at e in
+    cc
+led_to m memory a (Err f) ok e =
+    let q : refused (fault_reply f) ≡ leads (walk_root m a) = rw ok at e in
+    absurd (let z : ◌≡◌ {A = ℕ} 0 1 = cc in omega arith)
 
 -- the address of a column
 pub column_small : (size c : ℕ) → size ≤ 2 ^ 48 → c ≤ 64 → column_address size c ≤ 2 ^ 48
@@ -139,11 +133,10 @@ unfolding characters
 characters_length f zero = refl
 characters_length f (suc k) = length-append (characters f k) (f k ∷ []) ∙ omega (arith, characters_length f k)
 
-pub character_more : (f : ℕ → ℕ) (old text : List ℕ) (at k byte : ℕ) → text ≡ sets old at (characters f k) → byte ≡ f k → set text (at + k) byte ≡ sets old at (characters f (k + 1))
+-- one character more
+pub character_more : (f : ℕ → ℕ) (k : ℕ) → characters f k ++ (f k ∷ []) ≡ characters f (k + 1)
 unfolding characters
-character_more f old text at k byte e p =
-    ap₂ (λ (l : List ℕ) (b : ℕ). set l (at + k) b) e p ∙ store_next old at (characters f k) k (f k) (characters_length f k)
-    ∙ ap (λ (j : ℕ). sets old at (characters f j)) (sym (add-one k))
+character_more f k = ap (characters f) (sym (add-one k))
 
 row_length : (m : RegionMap) (r : Row) → length (row_text m r) ≡ 79
 unfolding row_text
@@ -155,14 +148,10 @@ rows_length m zero = refl
 rows_length m (suc w) =
     length-append (rows_text m w) (row_text m (row_at m.count w)) ∙ omega (arith, rows_length m w, row_length m (row_at m.count w))
 
-pub row_more : (m : RegionMap) (old text new : List ℕ) (w : ℕ) (r : Row) → text ≡ sets old 0 (rows_text m w) → r ≡ row_at m.count w → new ≡ sets text (79 * w) (row_text m r)
-    → new ≡ sets old 0 (rows_text m (w + 1))
+-- one row more
+pub row_more : (m : RegionMap) (w : ℕ) → rows_text m w ++ row_text m (row_at m.count w) ≡ rows_text m (w + 1)
 unfolding rows_text
-row_more m old text new w r e p q =
-    q ∙ ap₂ (λ (l : List ℕ) (x : Row). sets l (79 * w) (row_text m x)) e p
-    ∙ ap (λ (i : ℕ). sets (sets old 0 (rows_text m w)) i (row_text m (row_at m.count w))) (let i : 79 * w ≡ 0 + length (rows_text m w) = omega (arith, rows_length m w) in i)
-    ∙ sym (sets_append old 0 (rows_text m w) (row_text m (row_at m.count w)))
-    ∙ ap (λ (j : ℕ). sets old 0 (rows_text m j)) (sym (add-one w))
+row_more m w = ap (rows_text m) (sym (add-one w))
 
 ne_two : (w : ℕ) → (w ≡ 0 → ⊥) → (w ≡ 1 → ⊥) → 2 ≤ w
 ne_two zero p q = absurd (p refl)

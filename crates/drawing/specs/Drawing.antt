@@ -1,5 +1,5 @@
 -- The drawing of a map, character by character, after source 001's: the address line, a row for each region from the root down, and the flat view below. Assumes nothing: these are definitions.
-use Rattle.std.specs.Prelude.{cond, ◌||◌, List, [], ◌∷◌, ◌++◌, ℕ, zero, suc, ◌+◌, ◌-◌, ◌*◌, ◌/◌, ◌%◌, ◌<◌, eqb, ltb, get_or}
+use Rattle.std.specs.Prelude.{Option, Some, None, cond, ◌||◌, List, [], ◌∷◌, ◌++◌, ℕ, zero, suc, ◌+◌, ◌-◌, ◌*◌, ◌/◌, ◌%◌, ◌<◌, eqb, ltb, get_or}
 use Rattle.listing.specs.Text.{hex_text, refused_text}
 use Rattle.map_records.specs.Words.{map_of}
 use Rattle.map_records.specs.Map.{container, ram, mmio, alias, managed, has_memory, region}
@@ -8,8 +8,7 @@ use Rattle.map_check.specs.Check.{Accepted}
 use Rattle.region_map.specs.Walk.{walk_root}
 use Rattle.region_map.specs.Flatten.{root_size}
 use Rattle.map_records.specs.declared.map.RegionMap.{RegionMap}
-use Rattle.region_map.specs.declared.resolve.Resolved.{Resolved}
-use Rattle.region_map.specs.declared.resolve.Resolved.TheVariants.{Nothing, At}
+use Rattle.map_records.specs.declared.map.Found.{Found}
 use Rattle.sheet.specs.Sheet.{SheetOutcome, read_sheet}
 use Rattle.drawing.specs.Position.{located, Drawable}
 use Rattle.drawing.specs.declared.position.Position.{Position}
@@ -113,9 +112,9 @@ abbrev pub region_cell : RegionMap → ℕ → ℕ → ℕ → ℕ → ℕ
 region_cell m n a b c = first_cell m n c (located m n a (a + 1)) (located m n a b)
 
 -- the flat view's row: the region that the column's address leads to, and `.` where it leads to nothing
-abbrev pub answer_cell : Resolved → ℕ
-answer_cell Nothing = 0x2e
-answer_cell (At n o) = digit_of n
+abbrev pub answer_cell : Option Found → ℕ
+answer_cell None = 0x2e
+answer_cell (Some x) = digit_of x.region
 
 -- column c of a row, where it stands for a and the next column for b
 abbrev pub cell_at : RegionMap → Row → ℕ → ℕ → ℕ → ℕ

@@ -11,9 +11,10 @@ ghost use Rattle.map_records.specs.Limits.{map_length, limit, most_regions};
 use crate::label::{digit, letter};
 use crate::position::{Position, locate};
 use crate::row::Row;
-use map_records::map::{ALIAS, CONTAINER, GuestAddress, MMIO, has_memory};
+use map_records::kind::Kind;
+use map_records::map::GuestAddress;
 use map_records::words::{region_at, region_count};
-use region_map::resolve::{Resolution, Resolved, resolve_address};
+use region_map::resolve::resolve_address;
 
 // The guest address that column c stands for in a root of so many bytes.
 fn column_address(size: u64, c: usize) -> GuestAddress
@@ -37,28 +38,21 @@ fn address_cell(size: u64, c: usize) -> u8
 fn ruler_cell(c: usize) -> u8
     ensures { result ≡ ruler_cell c }
 {
-    if c % 16 == 0 {
-        return b'|';
-    }
-    b'-'
+    if c % 16 == 0 { b'|' } else { b'-' }
 }
 
 // What a region's row is filled with.
+#[tactic(auto, unfolding(crate::specs::Drawing::fill))]
 fn fill(map: &[u64], n: usize) -> u8
     requires { (length map.now ≡ map_length) × (n < most_regions) }
     ensures { result ≡ fill_of (map_of map.now) n }
 {
-    let region = region_at(map, n);
-    if region.kind == CONTAINER {
-        return b'-';
+    match Kind::try_from(region_at(map, n).kind) {
+        Ok(Kind::Container) => b'-',
+        Ok(Kind::Alias) => b'=',
+        Ok(Kind::Ram | Kind::Mmio | Kind::Managed) => digit(n),
+        Err(_) => b'?',
     }
-    if region.kind == ALIAS {
-        return b'=';
-    }
-    if has_memory(region.kind) | (region.kind == MMIO) {
-        return digit(n);
-    }
-    b'?'
 }
 
 // A column whose own address lies outside the region.
@@ -66,11 +60,9 @@ fn later_cell(map: &[u64], n: usize, first: GuestAddress, next: GuestAddress) ->
     requires { Drawable map.now × (n < (map_of map.now).count) }
     ensures { result ≡ later_cell (located (map_of map.now) n first.0 next.0) }
 {
-    let later = locate(map, n, first, next);
-    match later {
+    match locate(map, n, first, next) {
         Position::Inside(_, _) => b'+',
-        Position::Outside => b' ',
-        Position::Aside => b' ',
+        Position::Outside | Position::Aside => b' ',
     }
 }
 
@@ -78,8 +70,7 @@ fn region_cell(map: &[u64], n: usize, first: GuestAddress, next: GuestAddress, c
     requires { Drawable map.now × (n < (map_of map.now).count) × (first.0 ≤ limit) }
     ensures { result ≡ region_cell (map_of map.now) n first.0 next.0 c }
 {
-    let own = locate(map, n, first, GuestAddress(first.0 + 1));
-    match own {
+    match locate(map, n, first, GuestAddress(first.0 + 1)) {
         Position::Inside(_, _) => fill(map, n),
         Position::Outside => later_cell(map, n, first, next),
         Position::Aside => letter(b"not under the root", c),
@@ -91,13 +82,9 @@ fn answer_cell(map: &[u64], memory_length: u64, address: GuestAddress) -> u8
     requires { Accepted (map_of map.now) memory_length }
     ensures { result ≡ answer_cell (walk_root (map_of map.now) address.0) }
 {
-    let resolution = resolve_address(map, memory_length, address);
-    match resolution {
-        Resolution::Refused(_) => b'.',
-        Resolution::Answered(led) => match led {
-            Resolved::Nothing => b'.',
-            Resolved::At(n, _) => digit(n),
-        },
+    match resolve_address(map, memory_length, address).unwrap() {
+        Some(found) => digit(found.region),
+        None => b'.',
     }
 }
 
@@ -106,9 +93,7 @@ pub fn cell(map: &[u64], memory_length: u64, row: Row, c: usize) -> u8
     requires { DrawnRow map.now memory_length row × (c < 64) }
     ensures { result ≡ cell_of (map_of map.now) row c }
 {
-    let last = region_count(map) - 1;
-    let root = region_at(map, last);
-    let size = root.size;
+    let size = region_at(map, region_count(map) - 1).size;
     let address = column_address(size, c);
     let next = column_address(size, c + 1);
     match row {

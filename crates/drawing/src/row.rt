@@ -4,7 +4,7 @@ ghost use Rattle.drawing.specs.Drawing.{row_at};
 ghost use Rattle.map_records.specs.Limits.{most_regions};
 
 // The addresses, their ruler, a region by its number, and the flat view.
-#[derive(Clone, Copy)]
+#[derive(Clone, Copy, Debug, PartialEq, Eq)]
 pub enum Row {
     Addresses,
     Ruler,
@@ -17,14 +17,10 @@ pub fn row_at(count: usize, w: usize) -> Row
     requires { (count ≤ most_regions) × (w < count + 3) }
     ensures { result ≡ row_at count w }
 {
-    if w == 0 {
-        return Row::Addresses;
+    match w {
+        0 => Row::Addresses,
+        1 => Row::Ruler,
+        _ if w < count + 2 => Row::Region(count + 1 - w),
+        _ => Row::FlatView,
     }
-    if w == 1 {
-        return Row::Ruler;
-    }
-    if w < count + 2 {
-        return Row::Region(count + 1 - w);
-    }
-    Row::FlatView
 }

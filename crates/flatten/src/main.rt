@@ -2,28 +2,11 @@
 // a line for each range, or `refused N`.
 #![tactic(auto)]
 
-ghost use Rattle.std.specs.Io.{ReadsAtMost};
-
+use listing::input::read_full;
 use listing::listing::list_sheet;
 use std::io;
-use std::io::Read;
 
 const MEMORY: u64 = 65536;
-
-// Reads until the buffer is full or the input ends, and returns how many bytes it put at the buffer's start.
-fn read_full(input: &mut impl Read, buffer: &mut [u8]) -> io::Result<usize>
-    ensures { ReadsAtMost result buffer.new }
-{
-    let mut done: usize = 0;
-    while done < buffer.len() {
-        let n = input.read(&mut buffer[done..])?;
-        if n == 0 {
-            break;
-        }
-        done += n;
-    }
-    Ok(done)
-}
 
 // A sheet has at most 64 KiB. One byte more is read, so that a longer input is refused as the sheet
 // that it is: its first fault, and 5 where the map was read and bytes remain.

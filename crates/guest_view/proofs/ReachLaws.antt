@@ -20,8 +20,7 @@ use Rattle.device_words.specs.Device.{plugged_in}
 use Rattle.guest_view.specs.Guest.{leaf_at, reach_kind, reach_leaf, guest_by, all_reach}
 use Rattle.map_records.specs.View.{offset_in}
 use Rattle.guest_view.specs.Promises.{Ordered, Spot, Extends, Reaches}
-use Rattle.guest_view.specs.declared.reach.Extent.{Extent}
-use Rattle.guest_view.specs.declared.reach.Extent.TheVariants.{Go, Stop}
+use Rattle.std.specs.Prelude.{Option, None, Some}
 use Rattle.device_words.proofs.RuleLaws.{blocks_mono}
 use Rattle.device_words.proofs.TableLaws.{held_all}
 use Rattle.map_records.proofs.Order.{side}
@@ -94,10 +93,10 @@ module _ (v : FlatView) (plugged : ℕ → Bool) where
     none_reached p = ap (reach_leaf plugged) (spot.missed p)
 
     pub reaches_on : k < v.count → v.count ≤ length v.ranges → Ordered v → (r : FlatRange) → r ≡ range_of v k → (offset : ℕ) → offset ≡ offset_in r a
-        → (x : Extent) → Extends plugged r.kind offset (r.last.0 - a) x → Reaches reach_in a x
-    reaches_on h full o r is offset f Stop e =
+        → (x : Option ℕ) → Extends plugged r.kind offset (r.last.0 - a) x → Reaches reach_in a x
+    reaches_on h full o r is offset f None e =
         ap (reach_leaf plugged) (spot.found h) ∙ rw is at (ap (reach_kind plugged r.kind) (sym f) ∙ e)
-    reaches_on h full o r is offset f (Go m) e = λ i p.
+    reaches_on h full o r is offset f (Some m) e = λ i p.
         let low : r.first.0 ≤ a = rw is (spot.low h) in
         let high : a ≤ r.last.0 = rw is (spot.high h) in
         let top = e.0 in
@@ -106,10 +105,10 @@ module _ (v : FlatView) (plugged : ℕ → Bool) where
         ∙ rw is at (ap (reach_kind plugged r.kind) same ∙ e.1 i p)
 
 -- ---- a stretch from a on, of which `done` bytes are passed
-module _ (reach : ℕ → Bool) (a done : ℕ) (x : Extent) (reaches : Reaches reach (a + done) x) where
-  pub turn_stops : (n : ℕ) → x ≡ Stop → done < n → all_reach reach a n ≡ false
+module _ (reach : ℕ → Bool) (a done : ℕ) (x : Option ℕ) (reaches : Reaches reach (a + done) x) where
+  pub turn_stops : (n : ℕ) → x ≡ None → done < n → all_reach reach a n ≡ false
   turn_stops n e h = all_false reach a n done h (subst (Reaches reach (a + done)) e reaches)
 
-  pub turn_goes : (m : ℕ) → x ≡ Go m → ((e : ℕ) → e < done → reach (a + e) ≡ true) → (e : ℕ) → e < done + m + 1 → reach (a + e) ≡ true
+  pub turn_goes : (m : ℕ) → x ≡ Some m → ((e : ℕ) → e < done → reach (a + e) ≡ true) → (e : ℕ) → e < done + m + 1 → reach (a + e) ≡ true
   turn_goes m q f e h =
       ⊎_elim (f e) (λ ge. let same : a + e ≡ a + done + (e - done) = omega arith in ap reach same ∙ subst (Reaches reach (a + done)) q reaches (e - done) (omega arith)) (side e done)

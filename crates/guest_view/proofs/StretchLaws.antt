@@ -19,7 +19,7 @@ pub runs_first : (v : FlatView) (a p left : ℕ) → Runs v a p left → p ≡ p
 runs_first v a p left runs = sym (ap (place_in v) (sym (add-zero a)) ∙ runs.each 0 (omega arith) ∙ add-zero p)
 
 -- what is read of bytes side by side is what is read by their addresses
-map_runs : (f g : ℕ → ℕ) (a p n : ℕ) → ((i : ℕ) → i < n → f (a + i) ≡ g (p + i)) → map g (addresses p n) ≡ map f (addresses a n)
+map_runs : {T : Type 0} (f g : ℕ → T) (a p n : ℕ) → ((i : ℕ) → i < n → f (a + i) ≡ g (p + i)) → map g (addresses p n) ≡ map f (addresses a n)
 unfolding addresses
 map_runs f g a p zero h = refl
 map_runs f g a p (suc n) h =
@@ -28,21 +28,13 @@ map_runs f g a p (suc n) h =
     map_runs f g (suc a) (suc p) n (λ i b. let x : suc a + i ≡ a + suc i = omega arith in let y : p + suc i ≡ suc p + i = omega arith in ap f x ∙ h (suc i) (omega arith) ∙ ap g y) in
     cc
 
--- places as they are
-pub as_they_are : (a n : ℕ) → map (λ (x : ℕ). x) (addresses a n) ≡ addresses a n
-unfolding addresses
-as_they_are a zero = refl
-as_they_are a (suc n) = let r = as_they_are (suc a) n in cc
-
 module _ (v : FlatView) (a p left n : ℕ) (runs : Runs v a p left) (some : 0 < n) (few : n - 1 ≤ left) where
   pub runs_number : (mem : List ℕ) → number_at (λ x. x) mem p n ≡ number_at (place_in v) mem a n
   runs_number mem = numbers_agree (byte_at (λ x. x) mem) (byte_at (place_in v) mem) p a n (λ i b. ap (λ (x : ℕ). get_or mem x 0) (sym (runs.each i (omega arith))))
 
-  pub runs_bytes : (mem : List ℕ) → map (byte_at (λ x. x) mem) (addresses p n) ≡ map (byte_at (place_in v) mem) (addresses a n)
-  runs_bytes mem = map_runs (byte_at (place_in v) mem) (byte_at (λ x. x) mem) a p n (λ i b. ap (λ (x : ℕ). get_or mem x 0) (runs.each i (omega arith)))
-
-  pub runs_places : addresses p n ≡ map (place_in v) (addresses a n)
-  runs_places = sym (as_they_are p n) ∙ map_runs (place_in v) (λ x. x) a p n (λ i b. runs.each i (omega arith))
+  -- and what is made of their places is what is made of the places of their addresses
+  pub runs_made : {T : Type 0} (f : ℕ → T) → map f (addresses p n) ≡ map (λ (x : ℕ). f (place_in v x)) (addresses a n)
+  runs_made f = map_runs (λ x. f (place_in v x)) f a p n (λ i b. ap f (runs.each i (omega arith)))
 
   -- the memory that holds them
   pub runs_room : (memory : ℕ) → InMemory v a n → Backed v memory → p + n ≤ memory

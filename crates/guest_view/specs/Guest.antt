@@ -1,13 +1,12 @@
 -- Where the guest's bytes lie: what an address answers, reach and memory place. Everything that a queue step asks of a map it asks through `Guest`, so that the step over the flat list and the step over the tree are one definition. Assumes nothing: these are definitions.
-use Rattle.std.specs.Prelude.{Bool, true, false, ◌&&◌, ◌||◌, List, [], ◌∷◌, ℕ, zero, suc, ◌+◌, eqb, get_or, set}
+use Rattle.std.specs.Prelude.{Bool, true, false, ◌&&◌, ◌||◌, List, [], ◌∷◌, Option, None, Some, ℕ, zero, suc, ◌+◌, eqb, get_or, set}
 use Rattle.map_records.specs.Map.{ram, managed}
 use Rattle.region_map.specs.FlatList.{list_gives}
 use Rattle.region_map.specs.Flatten.{backing_of}
 use Rattle.map_records.specs.View.{entries, offset_in}
 use Rattle.region_map.specs.Walk.{walk_root}
 use Rattle.map_records.specs.declared.map.RegionMap.{RegionMap}
-use Rattle.region_map.specs.declared.resolve.Resolved.{Resolved}
-use Rattle.region_map.specs.declared.resolve.Resolved.TheVariants.{Nothing, At}
+use Rattle.map_records.specs.declared.map.Found.{Found}
 use Rattle.map_records.specs.declared.view.FlatRange.{FlatRange}
 use Rattle.map_records.specs.declared.view.FlatView.{FlatView}
 use Rattle.device_words.specs.Bytes.{number_by}
@@ -26,9 +25,9 @@ abbrev pub leaf_at : List FlatRange → ℕ → Leaf
 leaf_at = list_gives nowhere leaf_in
 
 -- what the walk answers, with the node's values
-abbrev pub leaf_of : RegionMap → Resolved → Leaf
-leaf_of m Nothing = nowhere
-leaf_of m (At n o) = leaf n (backing_of m n).kind (backing_of m n).base o.0
+abbrev pub leaf_of : RegionMap → Option Found → Leaf
+leaf_of m None = nowhere
+leaf_of m (Some f) = leaf f.region (backing_of m f.region).kind (backing_of m f.region).base f.offset.0
 
 abbrev pub tree_leaf : RegionMap → ℕ → Leaf
 tree_leaf m a = leaf_of m (walk_root m a)

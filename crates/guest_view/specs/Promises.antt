@@ -1,5 +1,5 @@
 -- What the functions inside the crate, and inner functions over it, promise each other. Assumes nothing: these are definitions.
-use Rattle.std.specs.Prelude.{◌≡◌, Bool, true, false, List, map, ℕ, ◌+◌, ◌-◌, ◌^◌, ◌≤◌, ◌<◌, length, get_or}
+use Rattle.std.specs.Prelude.{◌≡◌, Bool, true, false, List, map, Option, None, Some, ℕ, ◌+◌, ◌-◌, ◌^◌, ◌≤◌, ◌<◌, length, get_or}
 use Rattle.map_records.specs.Map.{has_memory}
 use Rattle.map_records.specs.View.{entries, range_of, last_offset}
 use Rattle.map_records.specs.Limits.{limit, most_regions, most_ranges, view_length}
@@ -8,8 +8,6 @@ use Rattle.map_records.specs.declared.view.FlatView.{FlatView}
 use Rattle.guest_view.specs.Guest.{Leaf, nowhere, leaf, leaf_in, leaf_at, reach_kind, place_leaf, view_guest, addresses, byte_at, number_at}
 use Rattle.guest_view.specs.View.{agree}
 use Rattle.map_records.specs.Words.{view_of}
-use Rattle.guest_view.specs.declared.reach.Extent.{Extent}
-use Rattle.guest_view.specs.declared.reach.Extent.TheVariants.{Go, Stop}
 
 abbrev pub memory_leaf : Leaf → Bool
 memory_leaf nowhere = false
@@ -59,6 +57,10 @@ bytes_in view memory a n = map (byte_at (place_in (view_of view)) memory) (addre
 abbrev pub places_in : List ℕ → ℕ → ℕ → List ℕ
 places_in view a n = map (place_in (view_of view)) (addresses a n)
 
+-- a closure makes g of each place at which it may be called
+abbrev pub Makes : {F T : Type 0} → (F → ℕ → Type 0) → (F → ℕ → T → Type 0) → F → (ℕ → T) → Type 0
+Makes {F} {T} pre post f g = (p : ℕ) (x : T) → pre f p → post f p x → x ≡ g p
+
 -- bytes side by side in the memory: that at an address, and as many after it as `left` says
 pub record Runs (v : FlatView) (a place left : ℕ) : Type 0 where
   pub each : (i : ℕ) → i ≤ left → place_in v (a + i) ≡ place + i
@@ -71,14 +73,14 @@ abbrev pub reach_in : List ℕ → ℕ → List ℕ → ℕ → Bool
 reach_in view block plugged = (view_guest (view_of view) block plugged).reach
 
 -- how far bytes are reachable from an address on
-abbrev pub Reaches : (ℕ → Bool) → ℕ → Extent → Type 0
-Reaches reach a Stop = reach a ≡ false
-Reaches reach a (Go m) = (e : ℕ) → e ≤ m → reach (a + e) ≡ true
+abbrev pub Reaches : (ℕ → Bool) → ℕ → Option ℕ → Type 0
+Reaches reach a None = reach a ≡ false
+Reaches reach a (Some m) = (e : ℕ) → e ≤ m → reach (a + e) ≡ true
 
 -- the same of the bytes of a node of a kind from an offset on, s more bytes following it
-abbrev pub Extends : (ℕ → Bool) → ℕ → ℕ → ℕ → Extent → Type 0
-Extends plugged kind o s Stop = reach_kind plugged kind o ≡ false
-Extends plugged kind o s (Go m) = (m ≤ s) × ((e : ℕ) → e ≤ m → reach_kind plugged kind (o + e) ≡ true)
+abbrev pub Extends : (ℕ → Bool) → ℕ → ℕ → ℕ → Option ℕ → Type 0
+Extends plugged kind o s None = reach_kind plugged kind o ≡ false
+Extends plugged kind o s (Some m) = (m ≤ s) × ((e : ℕ) → e ≤ m → reach_kind plugged kind (o + e) ≡ true)
 
 -- Judging a view: what is kept of the k entries seen for region n is 1 + the first whose region is n, and 0 where there is none.
 pub record Owner (v : FlatView) (k n first : ℕ) : Type 0 where

@@ -1,15 +1,14 @@
 // Bytes of the guest's memory, through a view. Where they lie side by side, in one range, they are read by one plain loop;
 // byte by byte only across an edge.
-ghost use Rattle.std.specs.Prelude.{◌≡◌, map, ◌+◌, ◌^◌, ◌≤◌, ◌<◌, length};
+ghost use Rattle.std.specs.Prelude.{◌≡◌, ℕ, map, ◌+◌, ◌^◌, ◌≤◌, ◌<◌, length};
 ghost use Rattle.map_records.specs.Words.{view_of};
 ghost use Rattle.guest_view.specs.Guest.{addresses, byte_at, number_at, written};
-ghost use Rattle.guest_view.specs.Promises.{Judged, Backed, InMemory, Runs, Within, number_in, bytes_in, places_in};
+ghost use Rattle.guest_view.specs.Promises.{Judged, Backed, InMemory, Runs, Within, Makes, number_in, place_in, bytes_in, places_in};
 
 use crate::find::near;
 use crate::place::{offset_in, place_of};
-use device_words::bytes::{copy_bytes, number_at};
+use device_words::bytes::number_at;
 use map_records::map::GuestAddress;
-use map_records::numbers::wide;
 use map_records::words::range_at;
 
 // A byte's memory place, and how many bytes after it follow it there.
@@ -35,6 +34,55 @@ fn stretch_at(view: &[u64], hint: usize, a: GuestAddress) -> Stretch
     }
 }
 
+// What is made of the places of bytes side by side, one after the other.
+fn fill_together<T: Copy, F: Fn(usize) -> T>(place: usize, out: &mut [T], make: F)
+    requires room { place + length out.old ≤ 2 ^ 64 }
+    requires callable { (i : ℕ) → i < length out.old → F.pre make (place + i) }
+    ensures { (g : ℕ → T) → Makes F.pre F.post make g → out.new ≡ map g (addresses place (length out.old)) }
+{
+    for (i, out) in out.iter_mut().enumerate() {
+        *out = make(place + i);
+    }
+}
+
+// The same of bytes that may lie apart.
+fn fill_apart<T: Copy, F: Fn(usize) -> T>(view: &[u64], addr: GuestAddress, out: &mut [T], make: F)
+    requires judged { Judged view.now }
+    requires in_memory { InMemory (view_of view.now) addr.0 (length out.old) }
+    requires callable { (i : ℕ) → i < length out.old → F.pre make (place_in (view_of view.now) (addr.0 + i)) }
+    ensures { (g : ℕ → T) → Makes F.pre F.post make g → out.new ≡ map (λ a. g (place_in (view_of view.now) a)) (addresses addr.0 (length out.old)) }
+{
+    for (i, out) in out.iter_mut().enumerate() {
+        let here = stretch_at(view, 0, GuestAddress(addr.0 + i as u64));
+        *out = make(here.place);
+    }
+}
+
+// What is made of the memory places of the bytes from an address on, as many as are asked for.
+fn fill<T: Copy, F: Fn(usize) -> T>(
+    view: &[u64],
+    hint: usize,
+    addr: GuestAddress,
+    out: &mut [T],
+    make: F,
+)
+    requires judged { Judged view.now }
+    requires in_memory { InMemory (view_of view.now) addr.0 (length out.old) }
+    requires callable { (i : ℕ) → i < length out.old → F.pre make (place_in (view_of view.now) (addr.0 + i)) }
+    ensures { (g : ℕ → T) → Makes F.pre F.post make g → out.new ≡ map (λ a. g (place_in (view_of view.now) a)) (addresses addr.0 (length out.old)) }
+{
+    let count = out.len();
+    if count == 0 {
+        return;
+    }
+    let here = stretch_at(view, hint, addr);
+    if (count - 1) as u64 <= here.left {
+        fill_together(here.place, out, make);
+        return;
+    }
+    fill_apart(view, addr, out, make);
+}
+
 // The little-endian number of bytes side by side.
 pub fn number_from(mem: &[u8], place: usize, bytes: u64) -> u64
     requires { (place + bytes ≤ length mem.now) × (bytes ≤ 8) }
@@ -51,15 +99,10 @@ fn number_apart(view: &[u64], mem: &[u8], addr: GuestAddress, bytes: u64) -> u64
     requires bytes_bound { bytes ≤ 8 }
     ensures { (result ≡ number_in view.now mem.now addr.0 bytes) × (result < 256 ^ bytes) }
 {
-    let mut value: u64 = 0;
-    let mut i = bytes;
-    while 0 < i {
-        i -= 1;
-        let here = stretch_at(view, 0, GuestAddress(addr.0 + i));
-        let place = here.place;
-        value = value * 256 + wide(mem[place]);
-    }
-    value
+    let mut eight = [0u8; 8];
+    let apart = &mut eight[..bytes as usize];
+    fill_apart(view, addr, apart, |place| mem[place]);
+    number_from(apart, 0, bytes)
 }
 
 // The little-endian number of up to eight bytes, of which there is one at least.
@@ -77,31 +120,6 @@ pub fn read_number(view: &[u64], mem: &[u8], hint: usize, addr: GuestAddress, by
     number_apart(view, mem, addr, bytes)
 }
 
-// Bytes side by side.
-fn bytes_from(mem: &[u8], place: usize, out: &mut [u8])
-    requires { place + length out.old ≤ length mem.now }
-    ensures { out.new ≡ map (byte_at (λ a. a) mem.now) (addresses place (length out.old)) }
-{
-    let end = place + out.len();
-    copy_bytes(out, &mem[place..end]);
-}
-
-// The same of bytes that may lie apart.
-fn bytes_apart(view: &[u64], mem: &[u8], addr: GuestAddress, out: &mut [u8])
-    requires judged { Judged view.now }
-    requires backed { Backed (view_of view.now) (length mem.now) }
-    requires in_memory { InMemory (view_of view.now) addr.0 (length out.old) }
-    ensures { out.new ≡ bytes_in view.now mem.now addr.0 (length out.old) }
-{
-    let mut i: usize = 0;
-    while i < out.len() {
-        let here = stretch_at(view, 0, GuestAddress(addr.0 + i as u64));
-        let place = here.place;
-        out[i] = mem[place];
-        i += 1;
-    }
-}
-
 // The bytes from an address on, as many as are asked for.
 pub fn read_bytes(view: &[u64], mem: &[u8], hint: usize, addr: GuestAddress, out: &mut [u8])
     requires judged { Judged view.now }
@@ -109,42 +127,7 @@ pub fn read_bytes(view: &[u64], mem: &[u8], hint: usize, addr: GuestAddress, out
     requires in_memory { InMemory (view_of view.now) addr.0 (length out.old) }
     ensures { out.new ≡ bytes_in view.now mem.now addr.0 (length out.old) }
 {
-    let count = out.len();
-    if count == 0 {
-        return;
-    }
-    let here = stretch_at(view, hint, addr);
-    if (count - 1) as u64 <= here.left {
-        bytes_from(mem, here.place, out);
-        return;
-    }
-    bytes_apart(view, mem, addr, out);
-}
-
-// Places side by side.
-fn places_from(place: usize, out: &mut [usize])
-    requires { place + length out.old ≤ 2 ^ 64 }
-    ensures { out.new ≡ addresses place (length out.old) }
-{
-    let mut i: usize = 0;
-    while i < out.len() {
-        out[i] = place + i;
-        i += 1;
-    }
-}
-
-// The memory places of bytes that may lie apart.
-fn places_apart(view: &[u64], addr: GuestAddress, out: &mut [usize])
-    requires judged { Judged view.now }
-    requires in_memory { InMemory (view_of view.now) addr.0 (length out.old) }
-    ensures { out.new ≡ places_in view.now addr.0 (length out.old) }
-{
-    let mut i: usize = 0;
-    while i < out.len() {
-        let here = stretch_at(view, 0, GuestAddress(addr.0 + i as u64));
-        out[i] = here.place;
-        i += 1;
-    }
+    fill(view, hint, addr, out, |place| mem[place]);
 }
 
 // The memory places of the bytes from an address on, as many as are asked for.
@@ -153,16 +136,7 @@ pub fn find_places(view: &[u64], hint: usize, addr: GuestAddress, out: &mut [usi
     requires in_memory { InMemory (view_of view.now) addr.0 (length out.old) }
     ensures { out.new ≡ places_in view.now addr.0 (length out.old) }
 {
-    let count = out.len();
-    if count == 0 {
-        return;
-    }
-    let here = stretch_at(view, hint, addr);
-    if (count - 1) as u64 <= here.left {
-        places_from(here.place, out);
-        return;
-    }
-    places_apart(view, addr, out);
+    fill(view, hint, addr, out, |place| place);
 }
 
 // Bytes written at places, one after the other.
@@ -171,10 +145,7 @@ pub fn write_bytes(mem: &mut [u8], places: &[usize], bytes: &[u8])
     requires places_len { length places.now ≡ length bytes.now }
     ensures { mem.new ≡ written mem.old places.now bytes.now }
 {
-    let mut i: usize = 0;
-    while i < places.len() {
-        let place = places[i];
-        mem[place] = bytes[i];
-        i += 1;
+    for (i, place) in places.iter().enumerate() {
+        mem[*place] = bytes[i];
     }
 }

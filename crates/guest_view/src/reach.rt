@@ -8,29 +8,21 @@ ghost use Rattle.map_records.specs.Limits.{limit};
 use crate::find::near;
 use crate::place::offset_in;
 use device_words::block::block_of;
-use device_words::table::{BLOCKS, all_set, is_in};
-use map_records::map::{GuestAddress, MANAGED, RAM, RegionOffset};
-use map_records::numbers::least;
+use device_words::table::{BLOCKS, BlockRun, all_set, is_in};
+use map_records::kind::Kind;
+use map_records::map::{GuestAddress, RegionOffset};
+use map_records::view::FlatRange;
 use map_records::words::{count_of, range_at};
-
-// How far bytes are reachable from one on.
-#[derive(Clone, Copy)]
-pub enum Extent {
-    // The byte is, and so are this many after it.
-    Go(u64),
-    // The byte is not.
-    Stop,
-}
 
 // Is the byte at an offset of the managed region in a plugged block? The table has 1,024.
 pub fn byte_plugged(block: u64, plugged: &[u64], offset: RegionOffset) -> bool
     requires { Table block plugged.now }
     ensures { result ≡ plugged_in block plugged.now offset.0 }
 {
-    if offset.0 / block < BLOCKS as u64 {
-        return is_in(plugged, block_of(block, offset));
+    if BLOCKS as u64 <= offset.0 / block {
+        return false;
     }
-    false
+    is_in(plugged, block_of(block, offset))
 }
 
 // Are the blocks of the bytes from an offset on plugged, up to `more` bytes after it?
@@ -40,44 +32,48 @@ fn run_plugged(block: u64, plugged: &[u64], offset: RegionOffset, more: u64) -> 
     ensures { result ≡ true → (e : ℕ) → e ≤ more → plugged_in block plugged.now (offset.0 + e) ≡ true }
 {
     let end = RegionOffset(offset.0 + more);
-    if end.0 / block < BLOCKS as u64 {
-        let first = block_of(block, offset);
-        let last = block_of(block, end);
-        let count = (last.0 - first.0) as usize + 1;
-        return all_set(plugged, first, count);
+    if BLOCKS as u64 <= end.0 / block {
+        return false;
     }
-    false
+    let first = block_of(block, offset);
+    let last = block_of(block, end);
+    let run = BlockRun {
+        first,
+        count: (last.0 - first.0) as usize + 1,
+    };
+    all_set(plugged, run)
 }
 
-// From an offset of a region of a kind on, for at most `span` bytes after it: RAM to the end; a plugged
-// block to its last byte, or as far as bytes are wanted where all their blocks are plugged.
+// From an offset of a range's region on, for at most `span` bytes after it: RAM to the end; a plugged block to its last
+// byte, or as far as bytes are wanted where all their blocks are plugged. None where the byte itself is not reachable,
+// else how many after it are too.
 fn how_far(
     block: u64,
     plugged: &[u64],
-    kind: u64,
+    range: FlatRange,
     offset: RegionOffset,
     span: u64,
     wanted: u64,
-) -> Extent
+) -> Option<u64>
     requires table { Table block plugged.now }
     requires span_bound { offset.0 + span < limit }
-    ensures { Extends (plugged_in block plugged.now) kind offset.0 span result }
+    ensures { Extends (plugged_in block plugged.now) range.kind offset.0 span result }
 {
-    if kind == RAM {
-        return Extent::Go(span);
+    if range.has_kind(Kind::Ram) {
+        return Some(span);
     }
-    if kind == MANAGED {
-        let far = least(span, wanted);
-        if run_plugged(block, plugged, offset, far) {
-            return Extent::Go(far);
-        }
-        if byte_plugged(block, plugged, offset) {
-            let left = block - 1 - offset.0 % block;
-            return Extent::Go(least(left, span));
-        }
-        return Extent::Stop;
+    if !range.has_kind(Kind::Managed) {
+        return None;
     }
-    Extent::Stop
+    let far = span.min(wanted);
+    if run_plugged(block, plugged, offset, far) {
+        return Some(far);
+    }
+    if !byte_plugged(block, plugged, offset) {
+        return None;
+    }
+    let left = block - 1 - offset.0 % block;
+    Some(left.min(span))
 }
 
 // From an address on, as far as its range goes. The hint's range is tried first.
@@ -88,25 +84,18 @@ fn extent_at(
     hint: usize,
     a: GuestAddress,
     wanted: u64,
-) -> Extent
+) -> Option<u64>
     requires judged { Judged view.now }
     requires table { Table block plugged.now }
     ensures { Reaches (reach_in view.now block plugged.now) a.0 result }
 {
     let at = near(view, hint, a);
     if count_of(view) <= at {
-        return Extent::Stop;
+        return None;
     }
     let range = range_at(view, at);
     let offset = offset_in(range, a);
-    how_far(
-        block,
-        plugged,
-        range.kind,
-        offset,
-        range.last.0 - a.0,
-        wanted,
-    )
+    how_far(block, plugged, range, offset, range.last.0 - a.0, wanted)
 }
 
 // Is each of the bytes from an address on reachable? None wraps.
@@ -125,23 +114,19 @@ pub fn reaches(
     if count == 0 {
         return true;
     }
-    if 18446744073709551615 - addr.0 < count - 1 {
+    if u64::MAX - addr.0 < count - 1 {
         return false;
     }
     let mut done: u64 = 0;
     while done < count {
         let here = GuestAddress(addr.0 + done);
-        match extent_at(view, block, plugged, hint, here, count - done - 1) {
-            Extent::Stop => {
-                return false;
-            }
-            Extent::Go(more) => {
-                if count - done - 1 <= more {
-                    return true;
-                }
-                done = done + more + 1;
-            }
+        let Some(more) = extent_at(view, block, plugged, hint, here, count - done - 1) else {
+            return false;
+        };
+        if count - done - 1 <= more {
+            return true;
         }
+        done = done + more + 1;
     }
     true
 }

@@ -7,7 +7,8 @@ ghost use Rattle.guest_view.specs.Promises.{Owner, Ascends};
 ghost use Rattle.map_records.specs.Limits.{view_length, limit, most_ranges};
 
 use crate::place::offset_in;
-use map_records::map::{MANAGED, MMIO, REGIONS, has_memory};
+use map_records::kind::Kind;
+use map_records::map::REGIONS;
 use map_records::numbers::{LIMIT, sum_within};
 use map_records::view::{FlatRange, RANGES};
 use map_records::words::{VIEW_WORDS, count_of, range_at};
@@ -17,16 +18,15 @@ fn backing_ok(range: FlatRange, there: u64, memory: u64, region: u64) -> bool
     requires { (there ≡ last_offset range) × (there < limit) }
     ensures { result ≡ (kind_ok range && (memory_ok memory range && managed_ok region range)) }
 {
-    let kind = range.kind;
-    if kind == MANAGED {
+    if range.has_kind(Kind::Managed) {
         if region <= there {
             return false;
         }
     }
-    if has_memory(kind) {
+    if range.has_kind(Kind::Ram) | range.has_kind(Kind::Managed) {
         return sum_within(range.base, there + 1, memory);
     }
-    kind == MMIO
+    range.has_kind(Kind::Mmio)
 }
 
 // One range by itself.
@@ -86,8 +86,7 @@ pub fn view_ok(view: &[u64], memory: u64, region: u64) -> bool
         return false;
     }
     let mut owner = [0usize; REGIONS];
-    let mut k: usize = 0;
-    while k < count {
+    for k in 0..count {
         let range = range_at(view, k);
         if !range_ok(range, memory, region) {
             return false;
@@ -100,7 +99,6 @@ pub fn view_ok(view: &[u64], memory: u64, region: u64) -> bool
         if first == 0 {
             owner[n] = k + 1;
         }
-        k += 1;
     }
     true
 }

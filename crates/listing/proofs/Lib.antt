@@ -1,2 +1,3 @@
+pub mod InputLaws
 pub mod ListingLaws
 pub mod TextLaws

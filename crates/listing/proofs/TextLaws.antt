@@ -1,25 +1,23 @@
 -- Laws of numbers as text, and of texts that are put into a buffer. Assumes nothing.
-use mathlib.Core.Path.{◌≡◌, refl, sym, ap, ap₂, subst, ◌∙◌}
-use mathlib.Core.Bool.{Bool, cond}
-use mathlib.Core.List.{List, [], ◌∷◌, ◌++◌}
-use Prim.Native.Nat.{ℕ, zero, suc, ◌+◌, ◌-◌, ◌*◌, ◌/◌, ◌^◌, ◌≤◌, ◌<◌}
-use native.Mathlib.Nat.{div-lt_iff_lt-mul, le-div_iff_mul-le, pow-zero, pow-suc, one-mul, zero-add, one-le-pow, pow-le-pow_right, mul-le-mul_right}
+use mathlib.Core.Path.{◌≡◌, refl, sym, ap, subst, ◌∙◌}
+use mathlib.Core.Bool.{false}
+use mathlib.Core.List.{List, [], ◌∷◌, ◌++◌, append_assoc}
+use Prim.Native.Nat.{ℕ, zero, suc, ◌-◌, ◌*◌, ◌/◌, ◌^◌, ◌≤◌, ◌<◌}
+use native.Mathlib.Nat.{div-lt_iff_lt-mul, le-div_iff_mul-le, pow-zero, pow-suc, one-mul, one-le-pow, pow-le-pow_right, mul-le-mul_right}
 use native.Mathlib.Decide.{dec_le}
-use native.Mathlib.Numerals.{add-one}
 use native.Mathlib.Omega.{arith}
-use lib.ListN.{length, take, drop, set, get_or, length-append, length-take}
-use lib.Seq.{sets, sets-eq, length-sets, take-suc, take_at, length-take-le}
-use borrow.Author.Tests.{lt-ltb, le-ltb, le-leb, lt-leb}
+use borrow.Author.Tests.{lt-ltb, le-ltb}
 use Rattle.io.specs.Digits.{last_digits, IsDigitCount}
-use Rattle.map_records.proofs.StoreLaws.{sets_append}
-use Rattle.map_check.specs.Reply.{Reply, if_accepted}
-use Rattle.map_check.proofs.Accepted.{passed_reply}
+use Rattle.std.specs.Prelude.{Result, Ok, Err}
+use Rattle.map_check.specs.Reply.{Reply, accepted, passes, number_of, if_accepted}
 use Rattle.map_check.proofs.Replies.{refused_first}
 use Rattle.map_records.specs.Words.{map_of}
 use Rattle.map_records.specs.declared.map.RegionMap.{RegionMap}
+use Rattle.sheet.specs.Answer.{sheet_fault_reply}
 use Rattle.sheet.specs.Sheet.{SheetOutcome}
-use Rattle.sheet.proofs.ReadLaws.{Said, ReadAs}
-use Rattle.listing.specs.Text.{places, hex_text, decimal_text, refusal_text, refused_text, Puts, Fills}
+use Rattle.sheet.specs.declared.answer.SheetFault.{SheetFault}
+use Rattle.sheet.proofs.ReadLaws.{ReadAs, read_accepted, read_refused, fault_not}
+use Rattle.listing.specs.Text.{places, hex_text, decimal_text, refusal_text, refused_text, Fills}
 
 -- ---- numbers
 
@@ -70,69 +68,28 @@ fewest_bound b f n k p q h w = go (dec_le k f)
         let up : b ^ f ≤ b ^ (k - 1) = pow-le-pow_right p (omega arith) in
         absurd (omega arith)
 
+-- the digits of a number at the end of a text, with a byte behind them
+pub pushed : (digits t old : List ℕ) {more new : List ℕ} (byte : ℕ) → digits ≡ t → more ≡ old ++ digits → new ≡ more ++ (byte ∷ []) → new ≡ old ++ (t ++ (byte ∷ []))
+pushed digits t old byte d m e =
+    e ∙ ap (λ (l : List ℕ). l ++ (byte ∷ [])) (m ∙ ap (λ (l : List ℕ). old ++ l) d) ∙ append_assoc old t (byte ∷ [])
+
 -- ---- texts in a buffer
 
--- one byte more behind a text that was stored
-pub store_next : (old : List ℕ) (at : ℕ) (t : List ℕ) (i byte : ℕ) → length t ≡ i → set (sets old at t) (at + i) byte ≡ sets old at (t ++ (byte ∷ []))
-store_next old at t i byte e = ap (λ (j : ℕ). set (sets old at t) (at + j) byte) (sym e) ∙ sym (sets_append old at t (byte ∷ []))
-
--- one byte more of a slice
-pub store_more : (old from text : List ℕ) (at i : ℕ) → i < length from → text ≡ sets old at (take i from) → set text (at + i) (get_or from i 0) ≡ sets old at (take (i + 1) from)
-store_more old from text at i h e =
-    ap (λ (l : List ℕ). set l (at + i) (get_or from i 0)) e
-    ∙ store_next old at (take i from) i (get_or from i 0) (length-take-le i from (omega arith))
-    ∙ ap (sets old at) (sym (take-suc from i 0 h) ∙ ap (λ (j : ℕ). take j from) (sym (add-one i)))
-
-module _ {t old new : List ℕ} {at r : ℕ} (p : Puts t old at r new) where
-  pub puts_size : length new ≡ length old
-  puts_size = ap length p.bytes ∙ length-sets old at t
-
-  -- a text behind a text
-  pub puts_then : {u newer : List ℕ} {s : ℕ} → Puts u new r s newer → Puts (t ++ u) old at s newer
-  puts_then {u} {newer} {s} q =
-      record {
-        past = omega (arith, p.past, q.past, length-append t u);
-        bytes = q.bytes ∙ ap₂ (λ (l : List ℕ) (i : ℕ). sets l i u) p.bytes p.past ∙ sym (sets_append old at t u);
-      }
-
--- a text that was stored from the front on
-stored_front : (t old : List ℕ) → length t ≤ length old → sets old 0 t ≡ t ++ drop (length t) old
-stored_front t old h = sets-eq t old 0 (omega arith) ∙ ap (λ (i : ℕ). t ++ drop i old) (zero-add (length t))
-
-pub puts_front : {t old new : List ℕ} {r : ℕ} → Puts t old 0 r new → r ≤ length old → take r new ≡ t
-puts_front {t} {old} {new} {r} p h =
-    ap (take r) (p.bytes ∙ stored_front t old (omega (arith, p.past))) ∙ take_at t (drop (length t) old) r (omega (arith, p.past))
-
-pub fills_room : {t old new : List ℕ} {r : ℕ} → length t ≤ length old → Puts t old 0 r new → Fills t old (length t) new
-fills_room {t} {old} {new} {r} h p =
-    record { size = refl; bytes = p.bytes ∙ stored_front t old h ∙ ap (λ (b : Bool). cond b (t ++ drop (length t) old) old) (sym (le-leb (length t) (length old) h)) }
-
-pub fills_none : {t old : List ℕ} → length old < length t → Fills t old (length t) old
-fills_none {t} {old} h = record { size = refl; bytes = ap (λ (b : Bool). cond b (t ++ drop (length t) old) old) (sym (lt-leb (length t) (length old) h)) }
-
--- the digits of a number, of which there are at most k, with a byte behind them
-pub put_spelled : {word t old new : List ℕ} {at r k : ℕ} (byte : ℕ) → word ≡ t → length word ≤ k → Puts (word ++ (byte ∷ [])) old at r new
-    → Puts (t ++ (byte ∷ [])) old at r new × (r ≤ at + (k + 1))
-put_spelled {word} {t} {old} {new} {at} {r} byte e h p =
-    (subst (λ (x : List ℕ). Puts (x ++ (byte ∷ [])) old at r new) e p, omega (arith, p.past, length-append word (byte ∷ [])))
-
--- a text that was put together in a buffer of its own, and then put into the lent one
-pub fills_put : {t blank buffer old new : List ℕ} {r k : ℕ} → Puts t blank 0 r buffer → r ≤ length blank → Fills (take r buffer) old k new → Fills t old k new × (k ≤ r)
-fills_put {t} {blank} {buffer} {old} {new} {r} {k} p h f =
-    (subst (λ (x : List ℕ). Fills x old k new) (puts_front p h) f, omega (arith, f.size, length-take r buffer))
-
 -- the text of a call that goes on only where nothing is refused
-module _ {r : Reply} {n : ℕ} (told : Said r n) (x : List ℕ) {old new : List ℕ} {k : ℕ} where
-  pub fills_refused : (n ≡ 0 → ⊥) → Fills (refusal_text n) old k new → Fills (if_accepted r refused_text x) old k new
-  fills_refused h f = subst (λ (t : List ℕ). Fills t old k new) (ap refusal_text told.number ∙ refused_first refused_text x r r refl (told.refused h)) f
+module _ (r : Reply) (x : List ℕ) {old new : List ℕ} {k : ℕ} where
+  pub fills_refused : {n : ℕ} → passes r ≡ false → n ≡ number_of r → Fills (refusal_text n) old k new → Fills (if_accepted r refused_text x) old k new
+  fills_refused p e f = subst (λ (t : List ℕ). Fills t old k new) (ap refusal_text e ∙ refused_first refused_text x r r refl p) f
 
-  pub fills_passed : n ≡ 0 → Fills x old k new → Fills (if_accepted r refused_text x) old k new
-  fills_passed z f = subst (λ (q : Reply). Fills (if_accepted q refused_text x) old k new) (sym (passed_reply r (told.passed z))) f
+  pub fills_passed : r ≡ accepted → Fills x old k new → Fills (if_accepted r refused_text x) old k new
+  fills_passed e f = subst (λ (q : Reply). Fills (if_accepted q refused_text x) old k new) (sym e) f
 
 -- the same of a sheet that was read: `made` is the text of its map
-module _ {o : SheetOutcome} {n : ℕ} {words : List ℕ} (told : ReadAs o n words) (made : RegionMap → List ℕ) {old new : List ℕ} {k : ℕ} where
-  pub sheet_refused : (n ≡ 0 → ⊥) → Fills (refusal_text n) old k new → Fills (if_accepted o.reply refused_text (made o.map)) old k new
-  sheet_refused h f = fills_refused told.said (made o.map) h f
+module _ {o : SheetOutcome} {a : Result Unit SheetFault} {words : List ℕ} (told : ReadAs o a words) (made : RegionMap → List ℕ) {old new : List ℕ} {k : ℕ} where
+  pub sheet_refused : {f : SheetFault} {n : ℕ} → a ≡ Err f → n ≡ number_of (sheet_fault_reply f)
+      → Fills (refusal_text n) old k new → Fills (if_accepted o.reply refused_text (made o.map)) old k new
+  sheet_refused {f} z e x =
+      let q : o.reply ≡ sheet_fault_reply f = read_refused told z in
+      fills_refused o.reply (made o.map) (ap passes q ∙ fault_not f) (e ∙ ap number_of (sym q)) x
 
-  pub sheet_passed : n ≡ 0 → Fills (made (map_of words)) old k new → Fills (if_accepted o.reply refused_text (made o.map)) old k new
-  sheet_passed z f = fills_passed told.said (made o.map) z (subst (λ (m : RegionMap). Fills (made m) old k new) (told.map z) f)
+  pub sheet_passed : {u : Unit} → a ≡ Ok u → Fills (made (map_of words)) old k new → Fills (if_accepted o.reply refused_text (made o.map)) old k new
+  sheet_passed z f = fills_passed o.reply (made o.map) (read_accepted told z) (subst (λ (m : RegionMap). Fills (made m) old k new) (told.map z) f)

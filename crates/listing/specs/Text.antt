@@ -1,6 +1,5 @@
 -- Numbers and refusals as text, and a text in a lent buffer. Assumes nothing: these are definitions.
-use Rattle.std.specs.Prelude.{◌≡◌, cond, List, [], ◌∷◌, ◌++◌, ℕ, zero, suc, ◌+◌, ◌/◌, leb, ltb, length, drop}
-use Rattle.std.proofs.lemmas.List.Edits.{sets}
+use Rattle.std.specs.Prelude.{◌≡◌, cond, List, [], ◌∷◌, ◌++◌, ℕ, zero, suc, ◌/◌, leb, ltb, length, drop}
 use Rattle.io.specs.Digits.{last_digits}
 use Rattle.map_check.specs.Reply.{Reply, number_of}
 
@@ -34,8 +33,3 @@ refused_text r = refusal_text (number_of r)
 pub record Fills (text old : List ℕ) (r : ℕ) (new : List ℕ) : Type 0 where
   pub size : r ≡ length text
   pub bytes : new ≡ cond (leb (length text) (length old)) (text ++ drop (length text) old) old
-
--- What the functions that put a text together promise each other: t was stored from `at` on, and r is the place past it.
-pub record Puts (t old : List ℕ) (at r : ℕ) (new : List ℕ) : Type 0 where
-  pub past : r ≡ at + length t
-  pub bytes : new ≡ sets old at t

@@ -1,19 +1,25 @@
 // The text that `flatten` prints for a sheet. A text goes into a lent buffer as a whole or not at all, and its length
 // is returned, so that a caller whose buffer was too small knows how many bytes are needed.
-ghost use Rattle.std.specs.Prelude.{◌≡◌, ◌+◌, ◌≤◌, length};
+ghost use Rattle.std.specs.Prelude.{◌≡◌, ◌++◌, [], ◌+◌, ◌≤◌, length};
+ghost use Rattle.arrayvec.specs.ArrayVec.{array_vec_len};
 ghost use Rattle.map_records.specs.View.{entries};
 ghost use Rattle.map_records.specs.Words.{map_of, view_of};
-ghost use Rattle.listing.specs.Text.{refusal_text, Puts, Fills};
+ghost use Rattle.listing.specs.Text.{refusal_text, Fills};
 ghost use Rattle.listing.specs.Listing.{range_text, ranges_text, map_text, listing_text};
 ghost use Rattle.map_records.specs.Limits.{view_length, most_ranges};
 
-use crate::text::{put_all, put_decimal, put_hex};
+use crate::text::{push_decimal, push_hex};
+use arrayvec::ArrayVec;
+use map_check::answer::Fault;
 use map_records::view::FlatRange;
 use map_records::words::{MAP_WORDS, VIEW_WORDS, count_of, range_at};
-use region_map::view;
 use region_map::view::flatten;
-use sheet::answer;
 use sheet::reading::read_sheet;
+
+// The bytes that a refusal's line and a flat list's lines may take.
+const REFUSAL: usize = 29;
+
+const LISTING: usize = 20480;
 
 // A text into a buffer.
 pub fn fill(text: &[u8], out: &mut [u8]) -> usize
@@ -21,7 +27,7 @@ pub fn fill(text: &[u8], out: &mut [u8]) -> usize
 {
     let n = text.len();
     if n <= out.len() {
-        put_all(out, 0, text);
+        out[..n].copy_from_slice(text);
     }
     n
 }
@@ -31,39 +37,33 @@ pub fn refuse(number: u64, out: &mut [u8]) -> usize
     ensures fills { Fills (refusal_text number) out.old result out.new }
     ensures upper_bound { result ≤ 29 }
 {
-    let mut text = [0u8; 29];
-    let at = put_all(&mut text, 0, b"refused ");
-    let n = put_decimal(&mut text, at, number, b'\n');
-    fill(&text[..n], out)
+    let mut text = ArrayVec::<u8, REFUSAL>::new();
+    text.try_extend_from_slice(b"refused ").unwrap();
+    push_decimal(&mut text, number, b'\n');
+    fill(text.as_slice(), out)
 }
 
 // The line of a range: first, last, region and offset.
-fn put_range(text: &mut [u8], at: usize, range: FlatRange) -> usize
-    requires { at + 80 ≤ length text.old }
-    ensures puts { Puts (range_text range) text.old at result text.new }
-    ensures upper_bound { result ≤ at + 80 }
+fn push_range(text: &mut ArrayVec<u8, LISTING>, range: FlatRange)
+    requires { array_vec_len text.old + 80 ≤ 20480 }
+    ensures bytes { text.new.items ≡ text.old.items ++ range_text range }
+    ensures upper_bound { array_vec_len text.new ≤ array_vec_len text.old + 80 }
 {
-    let last = put_hex(text, at, range.first.0, b' ');
-    let region = put_hex(text, last, range.last.0, b' ');
-    let offset = put_decimal(text, region, range.region as u64, b' ');
-    put_hex(text, offset, range.offset.0, b'\n')
+    push_hex(text, range.first.0, b' ');
+    push_hex(text, range.last.0, b' ');
+    push_decimal(text, range.region as u64, b' ');
+    push_hex(text, range.offset.0, b'\n');
 }
 
 // The lines of a view's ranges.
-fn put_ranges(view: &[u64], text: &mut [u8]) -> usize
-    requires { (length view.now ≡ view_length) × ((view_of view.now).count ≤ most_ranges) × (length text.old ≡ 20480) }
-    ensures puts { Puts (ranges_text (entries (view_of view.now))) text.old 0 result text.new }
-    ensures upper_bound { result ≤ 20480 }
+fn push_ranges(view: &[u64], text: &mut ArrayVec<u8, LISTING>)
+    requires { (length view.now ≡ view_length) × ((view_of view.now).count ≤ most_ranges) × (text.old.items ≡ []) }
+    ensures { text.new.items ≡ ranges_text (entries (view_of view.now)) }
 {
-    let count = count_of(view);
-    let mut at: usize = 0;
-    let mut k: usize = 0;
-    while k < count {
-        let range = range_at(view, k);
-        at = put_range(text, at, range);
-        k += 1;
+    // By number, since only `map_records` knows how ranges lie in a view's words.
+    for k in 0..count_of(view) {
+        push_range(text, range_at(view, k));
     }
-    at
 }
 
 // The flat view of a map that is judged first, or its refusal.
@@ -72,14 +72,12 @@ fn list_map(map: &[u64], memory_length: u64, out: &mut [u8]) -> usize
     ensures upper_bound { result ≤ 20480 }
 {
     let mut flat = [0u64; VIEW_WORDS];
-    let answer = flatten(map, memory_length, &mut flat);
-    let refused = view::number_of(answer);
-    if refused != 0 {
-        return refuse(refused, out);
+    if let Err(fault) = flatten(map, memory_length, &mut flat) {
+        return refuse(u64::from(fault.refusal().number()), out);
     }
-    let mut text = [0u8; 20480];
-    let n = put_ranges(&flat, &mut text);
-    fill(&text[..n], out)
+    let mut text = ArrayVec::<u8, LISTING>::new();
+    push_ranges(&flat, &mut text);
+    fill(text.as_slice(), out)
 }
 
 // The flat view of a sheet's map over a guest memory of so many bytes, one line a range, or its refusal. A buffer of
@@ -89,10 +87,8 @@ pub fn list_sheet(sheet: &[u8], memory_length: u64, out: &mut [u8]) -> usize
     ensures upper_bound { result ≤ 20480 }
 {
     let mut map = [0u64; MAP_WORDS];
-    let answer = read_sheet(sheet, memory_length, &mut map);
-    let refused = answer::number_of(answer);
-    if refused != 0 {
-        return refuse(refused, out);
+    if let Err(fault) = read_sheet(sheet, memory_length, &mut map) {
+        return refuse(u64::from(fault.refusal().number()), out);
     }
     list_map(&map, memory_length, out)
 }

@@ -1,49 +1,31 @@
-// Texts that are put together in a buffer, each from a place on.
-ghost use Rattle.std.specs.Prelude.{◌++◌, ◌∷◌, [], ◌+◌, ◌≤◌, ◌<◌, length};
-ghost use Rattle.listing.specs.Text.{hex_text, decimal_text, Puts};
+// Numbers as text, at the end of a text of fixed room. They are spelled by the kit's `io` and not by `write!`, which
+// promises its text only where it succeeds, and never that it does.
+ghost use Rattle.std.specs.Prelude.{◌≡◌, ◌++◌, ◌∷◌, [], ◌+◌, ◌≤◌};
+ghost use Rattle.arrayvec.specs.ArrayVec.{array_vec_len};
+ghost use Rattle.listing.specs.Text.{hex_text, decimal_text};
 
-// All of a slice. The place past it is returned.
-pub fn put_all(text: &mut [u8], at: usize, from: &[u8]) -> usize
-    requires { at + length from.now ≤ length text.old }
-    ensures { Puts from.now text.old at result text.new }
-{
-    let n = from.len();
-    let mut i: usize = 0;
-    while i < n {
-        text[at + i] = from[i];
-        i += 1;
-    }
-    at + n
-}
-
-// A word, and one byte behind it.
-fn put_word(text: &mut [u8], at: usize, word: &[u8], behind: u8) -> usize
-    requires { at + length word.now < length text.old }
-    ensures { Puts (word.now ++ (behind ∷ [])) text.old at result text.new }
-{
-    let end = put_all(text, at, word);
-    text[end] = behind;
-    end + 1
-}
+use arrayvec::ArrayVec;
 
 // A number in hexadecimal, in lower case without prefix, and one byte behind it.
-pub fn put_hex(text: &mut [u8], at: usize, n: u64, behind: u8) -> usize
-    requires { at + 17 ≤ length text.old }
-    ensures puts { Puts (hex_text n ++ (behind ∷ [])) text.old at result text.new }
-    ensures upper_bound { result ≤ at + 17 }
+pub fn push_hex<const ROOM: usize>(text: &mut ArrayVec<u8, ROOM>, n: u64, behind: u8)
+    requires { array_vec_len text.old + 17 ≤ ROOM }
+    ensures bytes { text.new.items ≡ text.old.items ++ (hex_text n ++ (behind ∷ [])) }
+    ensures upper_bound { array_vec_len text.new ≤ array_vec_len text.old + 17 }
 {
     let mut digits = [0u8; 16];
     let k = io::hex(n, 1, &mut digits);
-    put_word(text, at, &digits[..k], behind)
+    text.try_extend_from_slice(&digits[..k]).unwrap();
+    text.push(behind);
 }
 
 // A number in decimal, and one byte behind it.
-pub fn put_decimal(text: &mut [u8], at: usize, n: u64, behind: u8) -> usize
-    requires { at + 21 ≤ length text.old }
-    ensures puts { Puts (decimal_text n ++ (behind ∷ [])) text.old at result text.new }
-    ensures upper_bound { result ≤ at + 21 }
+pub fn push_decimal<const ROOM: usize>(text: &mut ArrayVec<u8, ROOM>, n: u64, behind: u8)
+    requires { array_vec_len text.old + 21 ≤ ROOM }
+    ensures bytes { text.new.items ≡ text.old.items ++ (decimal_text n ++ (behind ∷ [])) }
+    ensures upper_bound { array_vec_len text.new ≤ array_vec_len text.old + 21 }
 {
     let mut digits = [0u8; 20];
     let k = io::decimal(n, &mut digits);
-    put_word(text, at, &digits[..k], behind)
+    text.try_extend_from_slice(&digits[..k]).unwrap();
+    text.push(behind);
 }

@@ -1,40 +1,69 @@
--- What the two searches find, as equations, and the check as its parts. Assumes nothing.
-use mathlib.Core.Path.{◌≡◌, subst}
+-- What the two searches find, and the check as its parts. Assumes nothing.
+use mathlib.Core.Logic.{◌⊎◌, ⊎_elim}
+use mathlib.Core.Path.{◌≡◌, refl, sym, ap, ◌∙◌}
+use borrow.Author.Tests.{ne_eqb, lt-ltb, le-ltb}
 use mathlib.Core.Bool.{Bool, true, false}
+use native.Mathlib.Omega.{arith}
+use Rattle.std.proofs.Common.{Option, Some, None, ◌≤◌, ◌<◌}
+use Rattle.std.specs.Option.{MatchOption}
+use Rattle.map_check.specs.Reply.{Reply, accepted, nodes, ◌then◌, passes, first_pair}
+use Rattle.map_check.specs.Promises.{Tests, TestsPairs, pairs, LowestIs, FirstIs, on_regions, on_pairs}
+use Rattle.map_check.specs.Check.{fault_reply, count_fault, judged_by, judged}
+use Rattle.map_check.specs.declared.check.MapFault.{MapFault}
+use Rattle.map_check.proofs.Answers.{fault_form}
+use Rattle.map_check.specs.Clash.{priority_of, memory_clash, managed_clash, port_clash, sibling_clash}
 use Prim.Native.Nat.{ℕ}
-use Rattle.map_check.specs.Reply.{accepted, nodes, ◌then◌, lowest, first_pair}
-use Rattle.map_check.specs.Promises.{clash, LowestIs, FirstIs, on_regions, on_pairs}
-use Rattle.map_check.specs.Check.{count_fault, judged_by, judged}
+use Rattle.map_records.specs.Map.{region}
+use Rattle.map_records.specs.declared.map.Region.{Region}
 use Rattle.map_records.specs.declared.map.RegionMap.{RegionMap}
-use Rattle.map_check.specs.declared.clash.PairRule.TheVariants as pair_rule
-use Rattle.map_check.specs.declared.search.Lowest.{Lowest}
-use Rattle.map_check.specs.declared.search.Lowest.TheVariants.{Node, Nothing}
-use Rattle.map_check.specs.declared.search.Pair.{Pair}
-use Rattle.map_check.specs.declared.search.Pair.TheVariants as pair
-use Rattle.map_check.proofs.First.{then_four}
+use Rattle.map_check.proofs.First.{then_four, refused_stays, lowest_none, lowest_at, pair_none, pair_at}
 
-module _ (f : ℕ → Bool) (n : ℕ) (r : Lowest) where
-  pub lowest_passed : LowestIs f n r → r ≡ Nothing → (k : ℕ) → lowest k f n ≡ accepted
-  lowest_passed h e = subst (LowestIs f n) e h
+-- the first number of a range that was answered true, by a rule that the answers go by
+pub lowest_is : (rule : ℕ → Bool) (n : ℕ) (r : Option ℕ) {answers : ℕ → Bool → Type 0}
+    → MatchOption r ((k : ℕ) → 0 ≤ k → k < n → answers k false) (λ i. (0 ≤ i) × (i < n) × answers i true × ((k : ℕ) → 0 ≤ k → k < i → answers k false))
+    → Tests n rule answers → LowestIs rule n r
+lowest_is rule n None h tests = λ k. lowest_none rule k n (λ i p. sym (tests i false p (h i (omega arith) p)))
+lowest_is rule n (Some i) h tests =
+    λ k. lowest_at rule k n i h.1 (λ j p. sym (tests j false (omega arith) (h.3 j (omega arith) p))) (sym (tests i true h.1 h.2))
 
-  pub lowest_found : (i : ℕ) → LowestIs f n r → r ≡ Node i → (k : ℕ) → lowest k f n ≡ nodes k i i
-  lowest_found i h e = subst (LowestIs f n) e h
+-- the first pair that was answered true, and none, of a map that was read
+module _ (m : RegionMap) (rule : Region → Region → Bool) {answers : Region → Region → Bool → Type 0} (tests : TestsPairs rule answers)
+    (n : ℕ) (read : n ≡ m.count) where
+  pub pair_found : (i j : ℕ) (x y : Region) → x ≡ region m i → y ≡ region m j → i < j → j < n
+      → ((a : ℕ) → a < i → (b : ℕ) → b < n → a < b → answers (region m a) (region m b) false) → ((b : ℕ) → b < j → i < b → answers x (region m b) false)
+      → answers x y true → FirstIs (pairs m rule) m.count (Some (i, j))
+  pair_found i j x y e f p q above before here =
+      λ k. pair_at (pairs m rule) k m.count i j p (omega arith) (λ a r b s t. sym (tests _ _ false (above a r b (omega arith) t)))
+      (λ b r s. rw (← e) (sym (tests _ _ false (before b r s))))
+      (rw (← e, ← f) (sym (tests _ _ true here)))
 
-module _ (f : ℕ → ℕ → Bool) (n : ℕ) (r : Pair) where
-  pub pair_passed : FirstIs f n r → r ≡ pair.Nothing → (k : ℕ) → first_pair k f n ≡ accepted
-  pair_passed h e = subst (FirstIs f n) e h
-
-  pub pair_found : (i j : ℕ) → FirstIs f n r → r ≡ pair.Found i j → (k : ℕ) → first_pair k f n ≡ nodes k i j
-  pair_found i j h e = subst (FirstIs f n) e h
+  pub pair_passed : ((i : ℕ) → i < n → (j : ℕ) → j < n → i < j → answers (region m i) (region m j) false) → FirstIs (pairs m rule) m.count None
+  pair_passed none = λ k. pair_none (pairs m rule) k m.count (λ i p j q r. sym (tests _ _ false (none i (omega arith) j (omega arith) r)))
 
 module _ (m : RegionMap) (memory : ℕ) where
-  pub judged_count : count_fault m.count ≡ true → nodes 3 0 0 ≡ judged m memory
+  pub judged_count : (n : ℕ) → n ≡ m.count → (n ≡ 0) ⊎ ((n ≡ 0 → ⊥) × (32 < n)) → nodes 3 0 0 ≡ judged m memory
   unfolding judged_by
-  judged_count e = rw e
+  judged_count n same h = rw (← same, wrong n h)
+    where
+      wrong : (n : ℕ) → (n ≡ 0) ⊎ ((n ≡ 0 → ⊥) × (32 < n)) → count_fault n ≡ true
+      wrong n h = ⊎_elim (λ z. rw z) (λ p. rw (ne_eqb n 0 p.0, lt-ltb 32 n p.1)) h
 
-  pub judged_parts : count_fault m.count ≡ false → judged m memory ≡ (on_regions m memory then on_pairs m)
-  unfolding judged_by on_regions on_pairs
-  judged_parts e =
-      rw e
-      (then_four (on_regions m memory) (first_pair 8 (clash pair_rule.Memory m) m.count) (first_pair 9 (clash pair_rule.Managed m) m.count)
-      (first_pair 10 (clash pair_rule.Ports m) m.count) (first_pair 11 (clash pair_rule.Siblings m) m.count))
+  -- of a count that a map can have
+  module _ (n : ℕ) (same : n ≡ m.count) (some : n ≡ 0 → ⊥) (few : n ≤ 32) where
+    judged_parts : judged m memory ≡ (on_regions m memory then on_pairs m)
+    unfolding judged_by on_regions on_pairs
+    judged_parts =
+        rw (← same, ne_eqb n 0 some, le-ltb 32 n few, same)
+        (then_four (on_regions m memory) (first_pair 8 (λ i j. memory_clash (region m i) (region m j)) m.count)
+        (first_pair 9 (λ i j. managed_clash (region m i) (region m j)) m.count)
+        (first_pair 10 (λ i j. port_clash (region m i) (region m j)) m.count)
+        (first_pair 11 (λ i j. sibling_clash priority_of m i j) m.count))
+
+    pub judged_refused : (f : MapFault) → fault_reply f ≡ on_regions m memory → fault_reply f ≡ judged m memory
+    judged_refused f e =
+        sym
+        (judged_parts ∙ ap (λ (r : Reply). r then on_pairs m) (sym e)
+        ∙ refused_stays (fault_reply f) (on_pairs m) (fault_form (λ r. passes r ≡ false) (λ k i j. refl) f))
+
+    pub judged_passed : accepted ≡ on_regions m memory → on_pairs m ≡ judged m memory
+    judged_passed e = sym (judged_parts ∙ ap (λ (r : Reply). r then on_pairs m) (sym e))

@@ -1,27 +1,30 @@
 -- The check of a given map against the length of guest memory: 3, 4 and 6 to 11. Assumes nothing: these are definitions.
-use Rattle.std.specs.Prelude.{Bool, cond, ◌||◌, ◌≡◌, ℕ, eqb, ltb}
+use Rattle.std.specs.Prelude.{Bool, cond, ◌||◌, ◌≡◌, ℕ, eqb, ltb, Result}
 use Rattle.map_records.specs.Map.{region}
-use Rattle.map_check.specs.Reply.{Reply, accepted, nodes, ◌then◌, lowest, first_pair}
+use Rattle.map_check.specs.Reply.{Reply, accepted, nodes, reply_by, ◌then◌, lowest, first_pair}
 use Rattle.map_check.specs.Fault.{kind_fault, field_fault, link_fault, memory_fault}
 use Rattle.map_check.specs.Clash.{priority_of, memory_clash, managed_clash, port_clash, sibling_clash}
 use Rattle.map_records.specs.Refusal as refusal
 use Rattle.map_records.specs.Limits.{most_regions}
 use Rattle.map_records.specs.declared.map.Region.{Region}
 use Rattle.map_records.specs.declared.map.RegionMap.{RegionMap}
-use Rattle.map_check.specs.declared.check.MapAnswer.{MapAnswer}
-use Rattle.map_check.specs.declared.check.MapAnswer.TheVariants as answer
+use Rattle.map_check.specs.declared.check.MapFault.{MapFault}
+use Rattle.map_check.specs.declared.check.MapFault.TheVariants as fault
 
--- document 01's number and nodes for each answer of the check
-abbrev pub reply : MapAnswer → Reply
-reply answer.Accepted = accepted
-reply answer.Count = nodes refusal.COUNT 0 0
-reply (answer.Kind n) = nodes refusal.KIND n n
-reply (answer.Field n) = nodes refusal.FIELD n n
-reply (answer.Link n) = nodes refusal.LINK n n
-reply (answer.Memory i j) = nodes refusal.MEMORY i j
-reply (answer.Managed i j) = nodes refusal.MANAGED i j
-reply (answer.Port i j) = nodes refusal.PORT i j
-reply (answer.Overlap i j) = nodes refusal.OVERLAP i j
+-- document 01's number and nodes for each fault of a map
+abbrev pub fault_reply : MapFault → Reply
+fault_reply fault.Count = nodes refusal.COUNT 0 0
+fault_reply (fault.Kind n) = nodes refusal.KIND n n
+fault_reply (fault.Field n) = nodes refusal.FIELD n n
+fault_reply (fault.Link n) = nodes refusal.LINK n n
+fault_reply (fault.Memory i j) = nodes refusal.MEMORY i j
+fault_reply (fault.Managed i j) = nodes refusal.MANAGED i j
+fault_reply (fault.Port i j) = nodes refusal.PORT i j
+fault_reply (fault.Overlap i j) = nodes refusal.OVERLAP i j
+
+-- and for each answer of the check
+abbrev pub reply : Result Unit MapFault → Reply
+reply = reply_by fault_reply
 
 -- 3: 'node count 0 or over 32'
 abbrev pub count_fault : ℕ → Bool

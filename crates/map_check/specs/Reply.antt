@@ -1,5 +1,5 @@
 -- What a call answers in document 01's terms, and the first refusal of several. Assumes nothing: these are definitions.
-use Rattle.std.specs.Prelude.{Bool, true, false, cond, ◌&&◌, List, ℕ, zero, suc, ltb}
+use Rattle.std.specs.Prelude.{Bool, true, false, cond, ◌&&◌, List, ℕ, zero, suc, ltb, Result, Ok, Err}
 
 -- 'Refusal numbers': nothing refused, or a number with two nodes, with a byte place, or alone
 pub data Reply : Type 0 where
@@ -7,6 +7,11 @@ pub data Reply : Type 0 where
   nodes : ℕ → ℕ → ℕ → Reply
   place : ℕ → ℕ → Reply
   plain : ℕ → Reply
+
+-- the reply of an answer: nothing refused, or that of its fault
+abbrev pub reply_by : {A E : Type 0} → (E → Reply) → Result A E → Reply
+reply_by fault (Ok a) = accepted
+reply_by fault (Err e) = fault e
 
 infixl 20 ◌then◌
 -- the first of two that refuses

@@ -1,21 +1,20 @@
 // The check of a given map.
 ghost use Rattle.std.specs.Prelude.{◌≡◌};
 ghost use Rattle.map_records.specs.Words.{map_of};
-ghost use Rattle.map_check.specs.Check.{reply, judged};
-ghost use Rattle.map_check.specs.Reply.{number_of, passes};
+ghost use Rattle.map_check.specs.Check.{fault_reply, reply, judged};
 ghost use Rattle.map_check.specs.Promises.{Counted, on_regions, on_pairs};
 
-use crate::clash::PairRule;
-use crate::fault::NodeRule;
-use crate::search::{Lowest, Pair, first_pair, lowest_fault};
+use crate::answer::Fault;
+use crate::clash::{managed_clash, memory_clash, port_clash, sibling_clash};
+use crate::fault::{field_fault, kind_fault, link_fault, memory_fault};
+use crate::search::{first_pair, lowest_fault};
 use map_records::map::REGIONS;
-use map_records::refusal;
-use map_records::words::{MAP_WORDS, region_count};
+use map_records::refusal::Refusal;
+use map_records::words::{MAP_WORDS, region_at, region_count};
 
-// Accepted, or the refusal of document 01 with its nodes: 3, 4 and 6 to 11.
-#[derive(Clone, Copy)]
-pub enum MapAnswer {
-    Accepted,
+// The refusal of document 01 with its nodes: 3, 4 and 6 to 11.
+#[derive(Clone, Copy, Debug, PartialEq, Eq)]
+pub enum MapFault {
     Count,
     Kind(usize),
     Field(usize),
@@ -26,94 +25,75 @@ pub enum MapAnswer {
     Overlap(usize, usize),
 }
 
-// Is the map accepted?
-pub fn accepts(answer: MapAnswer) -> bool
-    ensures { result ≡ passes (reply answer) }
-{
-    match answer {
-        MapAnswer::Accepted => true,
-        MapAnswer::Count => false,
-        MapAnswer::Kind(_) => false,
-        MapAnswer::Field(_) => false,
-        MapAnswer::Link(_) => false,
-        MapAnswer::Memory(_, _) => false,
-        MapAnswer::Managed(_, _) => false,
-        MapAnswer::Port(_, _) => false,
-        MapAnswer::Overlap(_, _) => false,
+impl Fault for MapFault {
+    ghost reply = { fault_reply };
+
+    fn refusal(self) -> Refusal {
+        match self {
+            MapFault::Count => Refusal::Count,
+            MapFault::Kind(_) => Refusal::Kind,
+            MapFault::Field(_) => Refusal::Field,
+            MapFault::Link(_) => Refusal::Link,
+            MapFault::Memory(_, _) => Refusal::Memory,
+            MapFault::Managed(_, _) => Refusal::Managed,
+            MapFault::Port(_, _) => Refusal::Port,
+            MapFault::Overlap(_, _) => Refusal::Overlap,
+        }
     }
 }
 
 // The rules over one region: 4, 6, 7, and 8's ends past the memory.
-fn check_regions(map: &[u64], memory_length: u64) -> MapAnswer
+fn check_regions(map: &[u64], memory_length: u64) -> Result<(), MapFault>
     requires { Counted map.now }
     ensures { reply result ≡ on_regions (map_of map.now) memory_length }
 {
-    if let Lowest::Node(n) = lowest_fault(map, memory_length, NodeRule::Kind) {
-        return MapAnswer::Kind(n);
+    let count = region_count(map);
+    if let Some(n) = lowest_fault(count, |n| kind_fault(region_at(map, n))) {
+        return Err(MapFault::Kind(n));
     }
-    if let Lowest::Node(n) = lowest_fault(map, memory_length, NodeRule::Field) {
-        return MapAnswer::Field(n);
+    if let Some(n) = lowest_fault(count, |n| field_fault(region_at(map, n))) {
+        return Err(MapFault::Field(n));
     }
-    if let Lowest::Node(n) = lowest_fault(map, memory_length, NodeRule::Link) {
-        return MapAnswer::Link(n);
+    if let Some(n) = lowest_fault(count, |n| link_fault(map, n)) {
+        return Err(MapFault::Link(n));
     }
-    if let Lowest::Node(n) = lowest_fault(map, memory_length, NodeRule::Memory) {
-        return MapAnswer::Memory(n, n);
+    if let Some(n) = lowest_fault(count, |n| memory_fault(memory_length, region_at(map, n))) {
+        return Err(MapFault::Memory(n, n));
     }
-    MapAnswer::Accepted
+    Ok(())
 }
 
 // The rules over two regions: 8's shared bytes, and 9 to 11.
-fn check_pairs(map: &[u64]) -> MapAnswer
+fn check_pairs(map: &[u64]) -> Result<(), MapFault>
     requires { Counted map.now }
     ensures { reply result ≡ on_pairs (map_of map.now) }
 {
-    if let Pair::Found(i, j) = first_pair(map, PairRule::Memory) {
-        return MapAnswer::Memory(i, j);
+    if let Some((i, j)) = first_pair(map, memory_clash) {
+        return Err(MapFault::Memory(i, j));
     }
-    if let Pair::Found(i, j) = first_pair(map, PairRule::Managed) {
-        return MapAnswer::Managed(i, j);
+    if let Some((i, j)) = first_pair(map, managed_clash) {
+        return Err(MapFault::Managed(i, j));
     }
-    if let Pair::Found(i, j) = first_pair(map, PairRule::Ports) {
-        return MapAnswer::Port(i, j);
+    if let Some((i, j)) = first_pair(map, port_clash) {
+        return Err(MapFault::Port(i, j));
     }
-    if let Pair::Found(i, j) = first_pair(map, PairRule::Siblings) {
-        return MapAnswer::Overlap(i, j);
+    if let Some((i, j)) = first_pair(map, |a, b| sibling_clash(map, a, b)) {
+        return Err(MapFault::Overlap(i, j));
     }
-    MapAnswer::Accepted
+    Ok(())
 }
 
 // Judges a map against the length of guest memory. Words of another number than a map's are a map of no regions.
-pub fn check_map(map: &[u64], memory_length: u64) -> MapAnswer
+pub fn check_map(map: &[u64], memory_length: u64) -> Result<(), MapFault>
     ensures { reply result ≡ judged (map_of map.now) memory_length }
 {
     if map.len() != MAP_WORDS {
-        return MapAnswer::Count;
+        return Err(MapFault::Count);
     }
     let count = region_count(map);
-    if (count == 0) | (REGIONS < count) {
-        return MapAnswer::Count;
+    if count == 0 || REGIONS < count {
+        return Err(MapFault::Count);
     }
-    let answer = check_regions(map, memory_length);
-    if accepts(answer) {
-        return check_pairs(map);
-    }
-    answer
-}
-
-// Document 01's number of the refusal, and 0 for an accepted map.
-pub fn number_of(answer: MapAnswer) -> u64
-    ensures { result ≡ number_of (reply answer) }
-{
-    match answer {
-        MapAnswer::Accepted => 0,
-        MapAnswer::Count => refusal::COUNT,
-        MapAnswer::Kind(_) => refusal::KIND,
-        MapAnswer::Field(_) => refusal::FIELD,
-        MapAnswer::Link(_) => refusal::LINK,
-        MapAnswer::Memory(_, _) => refusal::MEMORY,
-        MapAnswer::Managed(_, _) => refusal::MANAGED,
-        MapAnswer::Port(_, _) => refusal::PORT,
-        MapAnswer::Overlap(_, _) => refusal::OVERLAP,
-    }
+    check_regions(map, memory_length)?;
+    check_pairs(map)
 }

@@ -4,102 +4,81 @@ ghost use Rattle.map_records.specs.Map.{region};
 ghost use Rattle.map_records.specs.Words.{map_of};
 ghost use Rattle.map_check.specs.Clash.{share as share_of, siblings as siblings_of};
 ghost use Rattle.map_check.specs.Clash.{priority_of, memory_clash, managed_clash, port_clash, clash_below};
-ghost use Rattle.map_check.specs.Promises.{clash};
 ghost use Rattle.map_check.specs.Fault.{parent_of};
-ghost use Rattle.map_records.specs.Limits.{map_length, most_regions};
+ghost use Rattle.map_records.specs.Limits.{map_length};
 
 use crate::priority::priority_of;
-use map_records::map::{MANAGED, MMIO, REGIONS, Region, has_memory};
+use map_records::kind::Kind;
+use map_records::map::{REGIONS, Region, has_memory};
 use map_records::words::region_at;
-
-// The rules that are searched for over all pairs: 8's shared byte, 9, 10 and 11.
-#[derive(Clone, Copy)]
-pub enum PairRule {
-    Memory,
-    Managed,
-    Ports,
-    Siblings,
-}
 
 // Do [a, a + s) and [b, b + t) share a number? No sum is taken, so none wraps.
 fn share(a: u64, s: u64, b: u64, t: u64) -> bool
     ensures { result ≡ share_of a s b t }
 {
     if a < b {
-        return (b - a < s) & (0 < t);
+        return b - a < s && 0 < t;
     }
-    (0 < s) & (a - b < t)
+    0 < s && a - b < t
 }
 
-fn memory_clash(a: Region, b: Region) -> bool
+// 8: their bytes in guest memory.
+pub fn memory_clash(a: Region, b: Region) -> bool
     ensures { result ≡ memory_clash a b }
 {
-    has_memory(a.kind) & has_memory(b.kind) & share(a.memory_start, a.size, b.memory_start, b.size)
+    has_memory(a.kind)
+        && has_memory(b.kind)
+        && share(a.memory_start, a.size, b.memory_start, b.size)
 }
 
-fn managed_clash(a: Region, b: Region) -> bool
+// 9.
+pub fn managed_clash(a: Region, b: Region) -> bool
     ensures { result ≡ managed_clash a b }
 {
-    (a.kind == MANAGED) & (b.kind == MANAGED)
+    a.has_kind(Kind::Managed) && b.has_kind(Kind::Managed)
 }
 
-fn port_clash(a: Region, b: Region) -> bool
+// 10.
+pub fn port_clash(a: Region, b: Region) -> bool
     ensures { result ≡ port_clash a b }
 {
-    (a.kind == MMIO) & (b.kind == MMIO) & (a.port == b.port)
+    a.has_kind(Kind::Mmio) && b.has_kind(Kind::Mmio) && a.port == b.port
 }
 
 fn siblings(a: Region, b: Region) -> bool
     ensures { result ≡ siblings_of a b }
 {
-    !(a.parent == 0) & (a.parent == b.parent)
+    a.parent != 0 && a.parent == b.parent
 }
 
 // The number of a region's parent; 0 where it has none.
 fn parent_of(r: Region) -> usize
     ensures { result ≡ parent_of r }
 {
-    if r.parent == 0 {
-        return 0;
-    }
-    r.parent - 1
+    r.parent.saturating_sub(1)
 }
 
 // The size of region n, and 0 where a map has no room for such a region.
+#[tactic(auto, using(map_records::proofs::WordLaws::region_past))]
 fn size_of(map: &[u64], n: usize) -> u64
     requires { length map.now ≡ map_length }
     ensures { result ≡ (region (map_of map.now) n).size }
 {
     if n < REGIONS {
-        let r = region_at(map, n);
-        return r.size;
+        return region_at(map, n).size;
     }
     0
 }
 
-// The lowest address that two children share is the larger of their offsets. Only those below their parent's size are
-// ever asked of them.
-fn sibling_clash(map: &[u64], a: Region, b: Region) -> bool
+// 11. The lowest address that two children share is the larger of their offsets. Only those below their parent's size
+// are ever asked of them.
+#[tactic(auto, using(crate::proofs::ClashLaws::clash_offsets))]
+pub fn sibling_clash(map: &[u64], a: Region, b: Region) -> bool
     requires { length map.now ≡ map_length }
     ensures { result ≡ clash_below priority_of (region (map_of map.now) (parent_of a)).size a b }
 {
     let end = size_of(map, parent_of(a));
-    let below = (a.offset < end) & (b.offset < end);
-    let shared = share(a.offset, a.size, b.offset, b.size) & below;
-    siblings(a, b) & (priority_of(a) == priority_of(b)) & shared
-}
-
-// Do regions i and j clash by the rule?
-pub fn clashes(map: &[u64], rule: PairRule, i: usize, j: usize) -> bool
-    requires { (length map.now ≡ map_length) × (i < most_regions) × (j < most_regions) }
-    ensures { result ≡ clash rule (map_of map.now) i j }
-{
-    let a = region_at(map, i);
-    let b = region_at(map, j);
-    match rule {
-        PairRule::Memory => memory_clash(a, b),
-        PairRule::Managed => managed_clash(a, b),
-        PairRule::Ports => port_clash(a, b),
-        PairRule::Siblings => sibling_clash(map, a, b),
-    }
+    let below = a.offset < end && b.offset < end;
+    let shared = share(a.offset, a.size, b.offset, b.size) && below;
+    siblings(a, b) && priority_of(a) == priority_of(b) && shared
 }

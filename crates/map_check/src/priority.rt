@@ -2,7 +2,8 @@
 ghost use Rattle.std.specs.Prelude.{◌≡◌};
 ghost use Rattle.map_check.specs.Clash.{priority_of};
 
-use map_records::map::{MMIO, Region};
+use map_records::kind::Kind;
+use map_records::map::Region;
 
 // The priority + 128. Field 0 stands for -1 at an MMIO region and for 0 at any other.
 pub fn priority_of(r: Region) -> u64
@@ -11,5 +12,5 @@ pub fn priority_of(r: Region) -> u64
     if r.priority != 0 {
         return r.priority;
     }
-    if r.kind == MMIO { 127 } else { 128 }
+    if r.has_kind(Kind::Mmio) { 127 } else { 128 }
 }

@@ -1,51 +1,41 @@
 // The searches over regions and over pairs of them.
+ghost use Rattle.std.specs.Prelude.{ℕ, Bool, ◌<◌};
 ghost use Rattle.map_records.specs.Words.{map_of};
-ghost use Rattle.map_check.specs.Promises.{Counted, fault, clash, LowestIs, FirstIs};
+ghost use Rattle.map_records.specs.declared.map.Region.{Region};
+ghost use Rattle.map_check.specs.Promises.{Counted, Tests, TestsPairs, pairs, LowestIs, FirstIs};
 
-use crate::clash::{PairRule, clashes};
-use crate::fault::{NodeRule, at_fault};
-use map_records::words::region_count;
+use map_records::map::Region;
+use map_records::words::{region_at, region_count};
 
-#[derive(Clone, Copy)]
-pub enum Lowest {
-    Node(usize),
-    Nothing,
+// The lowest region below the count that is at fault.
+pub fn lowest_fault<F: Fn(usize) -> bool>(count: usize, at_fault: F) -> Option<usize>
+    requires { (n : ℕ) → n < count → F.pre at_fault n }
+    ensures { (rule : ℕ → Bool) → Tests count rule (F.post at_fault) → LowestIs rule count result }
+{
+    (0..count).find(
+        |&n|
+            requires { F.pre at_fault n }
+        { at_fault(n) },
+    )
 }
 
-#[derive(Clone, Copy)]
-pub enum Pair {
-    Found(usize, usize),
-    Nothing,
-}
-
-// The lowest region at fault by the rule.
-pub fn lowest_fault(map: &[u64], memory_length: u64, rule: NodeRule) -> Lowest
-    requires { Counted map.now }
-    ensures { LowestIs (fault rule (map_of map.now) memory_length) (map_of map.now).count result }
+// The first two regions that clash, in ascending order, lower number first. Document 01 names the form of the search: two
+// nested loops over region numbers, left together by a label with the pair found.
+pub fn first_pair<F: Fn(Region, Region) -> bool>(map: &[u64], clashes: F) -> Option<(usize, usize)>
+    requires counted { Counted map.now }
+    requires callable { F.IsAlwaysCallable clashes }
+    ensures { (rule : Region → Region → Bool) → TestsPairs rule (F.post clashes) → FirstIs (pairs (map_of map.now) rule) (map_of map.now).count result }
 {
     let count = region_count(map);
-    for n in 0..count {
-        if at_fault(map, memory_length, rule, n) {
-            return Lowest::Node(n);
-        }
-    }
-    Lowest::Nothing
-}
-
-// The first pair that clashes by the rule, in ascending order, lower number first.
-pub fn first_pair(map: &[u64], rule: PairRule) -> Pair
-    requires { Counted map.now }
-    ensures { FirstIs (clash rule (map_of map.now)) (map_of map.now).count result }
-{
-    let count = region_count(map);
-    let mut found = Pair::Nothing;
-    'search: for i in 0..count {
-        for j in i + 1..count {
-            if clashes(map, rule, i, j) {
-                found = Pair::Found(i, j);
-                break 'search;
+    'search: {
+        for i in 0..count {
+            let region = region_at(map, i);
+            for j in i + 1..count {
+                if clashes(region, region_at(map, j)) {
+                    break 'search Some((i, j));
+                }
             }
         }
+        None
     }
-    found
 }

@@ -1,6 +1,9 @@
 -- Readings of the records of a region map. Assumes nothing: these are definitions.
-use Rattle.std.specs.Prelude.{Bool, true, ◌||◌, ℕ, eqb, leb, get_or, replicate}
+use Rattle.std.specs.Prelude.{◌≡◌, ◌<◌, Bool, true, Result, MatchResult, ◌||◌, ℕ, eqb, leb, get_or, replicate}
 use Rattle.map_records.specs.Limits.{most_regions}
+use Rattle.map_records.specs.declared.kind.Kind.{Kind}
+use Rattle.map_records.specs.declared.kind.Kind.TheVariants as kind
+use Rattle.map_records.specs.declared.kind.UnknownKind.{UnknownKind}
 use Rattle.map_records.specs.declared.map.Region.{Region}
 use Rattle.map_records.specs.declared.map.RegionMap.{RegionMap}
 use Rattle.map_records.specs.declared.map.Field.{Field}
@@ -29,6 +32,20 @@ is_kind kind = leb kind managed
 -- the kinds whose bytes lie in guest memory
 abbrev pub has_memory : ℕ → Bool
 has_memory kind = eqb kind ram || eqb kind managed
+
+-- the number of each kind, and which numbers decode to which
+abbrev pub kind_number : Kind → ℕ
+kind_number kind.Container = container
+kind_number kind.Ram = ram
+kind_number kind.Mmio = mmio
+kind_number kind.Alias = alias
+kind_number kind.Managed = managed
+
+abbrev pub Decodes : ℕ → Result Kind UnknownKind → Type 0
+Decodes n r = MatchResult r (λ k. n ≡ kind_number k) (λ e. managed < n)
+
+abbrev pub kind_has_memory : Kind → Bool
+kind_has_memory k = has_memory (kind_number k)
 
 abbrev pub no_region : Region
 no_region = record { kind = 0; parent = 0; offset = 0; size = 0; priority = 0; memory_start = 0; port = 0; target = 0; alias_offset = 0 }

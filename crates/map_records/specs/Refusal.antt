@@ -1,5 +1,7 @@
 -- 'Refusal numbers': document 01's names for them. Assumes nothing: these are definitions.
 use Rattle.std.specs.Prelude.{ℕ}
+use Rattle.map_records.specs.declared.refusal.Refusal.{Refusal}
+use Rattle.map_records.specs.declared.refusal.Refusal.TheVariants as refusal
 
 abbrev pub SHORT : ℕ
 SHORT = 1
@@ -81,3 +83,33 @@ UNPLUGGED = 26
 
 abbrev pub RECORD : ℕ
 RECORD = 27
+
+-- the number of each refusal
+abbrev pub number : Refusal → ℕ
+number refusal.Short = SHORT
+number refusal.Number = NUMBER
+number refusal.Count = COUNT
+number refusal.Kind = KIND
+number refusal.Tail = TAIL
+number refusal.Field = FIELD
+number refusal.Link = LINK
+number refusal.Memory = MEMORY
+number refusal.Managed = MANAGED
+number refusal.Port = PORT
+number refusal.Overlap = OVERLAP
+number refusal.Runs = RUNS
+number refusal.SetUp = SETUP
+number refusal.Size = SIZE
+number refusal.Pin = PIN
+number refusal.Queue = QUEUE
+number refusal.Ring = RING
+number refusal.Ahead = AHEAD
+number refusal.Head = HEAD
+number refusal.Chain = CHAIN
+number refusal.Reach = REACH
+number refusal.Shape = SHAPE
+number refusal.Width = WIDTH
+number refusal.Hole = HOLE
+number refusal.Split = SPLIT
+number refusal.Unplugged = UNPLUGGED
+number refusal.Record = RECORD

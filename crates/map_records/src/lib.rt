@@ -2,6 +2,7 @@
 // accessors rely on the facts that they require, which every caller proves: no entry point stands here.
 #![tactic(auto)]
 
+pub mod kind;
 pub mod map;
 pub mod numbers;
 pub mod refusal;

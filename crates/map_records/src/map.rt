@@ -1,46 +1,33 @@
 // The records of a region map. Every field is a plain number as it stands on a sheet, so that a given
 // map can be wrong in each way that document 01 refuses.
-ghost use Rattle.std.specs.Prelude.{◌≡◌};
-ghost use Rattle.map_records.specs.Map.{is_kind, has_memory, has as has_field, value_of, with_value};
+ghost use Rattle.std.specs.Prelude.{◌≡◌, eqb};
+ghost use Rattle.map_records.specs.Map.{kind_number, has_memory, has as has_field, value_of, with_value};
+
+use crate::kind::Kind;
 
 // Document 01's guest address.
-#[derive(Clone, Copy)]
+#[derive(Clone, Copy, Debug, PartialEq, Eq)]
 pub struct GuestAddress(pub u64);
 
 // Document 01's offset inside a node.
-#[derive(Clone, Copy)]
+#[derive(Clone, Copy, Debug, PartialEq, Eq)]
 pub struct RegionOffset(pub u64);
-
-// Document 01's kinds of node.
-pub const CONTAINER: u64 = 0;
-
-pub const RAM: u64 = 1;
-
-pub const MMIO: u64 = 2;
-
-pub const ALIAS: u64 = 3;
-
-pub const MANAGED: u64 = 4;
-
-// Is it one of them? 4 is given from the next number on.
-pub fn is_kind(kind: u64) -> bool
-    ensures { result ≡ is_kind kind }
-{
-    kind <= MANAGED
-}
 
 // Do the bytes of a region of this kind lie in guest memory?
 pub fn has_memory(kind: u64) -> bool
     ensures { result ≡ has_memory kind }
 {
-    (kind == RAM) | (kind == MANAGED)
+    match Kind::try_from(kind) {
+        Ok(known) => known.has_memory(),
+        Err(_) => false,
+    }
 }
 
 // The most regions of a map.
 pub const REGIONS: usize = 32;
 
 // Document 01's node. `parent` is the parent's number + 1, and 0 where there is none.
-#[derive(Clone, Copy)]
+#[derive(Clone, Copy, Debug, PartialEq, Eq)]
 pub struct Region {
     pub kind: u64,
     pub parent: usize,
@@ -53,6 +40,13 @@ pub struct Region {
     pub alias_offset: u64,
 }
 
+// What an address leads to: a region, and the offset inside it.
+#[derive(Clone, Copy, Debug, PartialEq, Eq)]
+pub struct Found {
+    pub region: usize,
+    pub offset: RegionOffset,
+}
+
 // Document 01's map: the first `count` regions, the root last. What stands past them does not count. A map lies
 // as words with its owner, and only definitions speak of this record.
 #[derive(Drop)]
@@ -62,7 +56,7 @@ pub struct RegionMap {
 }
 
 // The fields of a region besides its kind.
-#[derive(Clone, Copy)]
+#[derive(Clone, Copy, Debug, PartialEq, Eq)]
 pub enum Field {
     Parent,
     Offset,
@@ -80,13 +74,20 @@ pub fn has(kind: u64, field: Field) -> bool
 {
     match field {
         Field::MemoryStart => has_memory(kind),
-        Field::Port => kind == MMIO,
-        Field::Target | Field::AliasOffset => kind == ALIAS,
+        Field::Port => kind == Kind::Mmio.number(),
+        Field::Target | Field::AliasOffset => kind == Kind::Alias.number(),
         _ => true,
     }
 }
 
 impl Region {
+    // Is it of this kind?
+    pub fn has_kind(self, kind: Kind) -> bool
+        ensures { result ≡ eqb self.kind (kind_number kind) }
+    {
+        self.kind == kind.number()
+    }
+
     pub fn value_of(self, field: Field) -> u64
         ensures { result ≡ value_of field self }
     {

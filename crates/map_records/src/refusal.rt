@@ -1,54 +1,43 @@
-// Document 01's refusal numbers, by its names. Those that stop a queue are as wide as the record's stop.
-pub const SHORT: u64 = 1;
+// Document 01's refusals, by its names and in the order of its numbers.
+ghost use Rattle.std.specs.Prelude.{◌≡◌};
+ghost use Rattle.map_records.specs.Refusal.{number};
 
-pub const NUMBER: u64 = 2;
+#[derive(Clone, Copy, Debug, PartialEq, Eq)]
+pub enum Refusal {
+    Short,
+    Number,
+    Count,
+    Kind,
+    Tail,
+    Field,
+    Link,
+    Memory,
+    Managed,
+    Port,
+    Overlap,
+    Runs,
+    SetUp,
+    Size,
+    Pin,
+    Queue,
+    Ring,
+    Ahead,
+    Head,
+    Chain,
+    Reach,
+    Shape,
+    Width,
+    Hole,
+    Split,
+    Unplugged,
+    Record,
+}
 
-pub const COUNT: u64 = 3;
-
-pub const KIND: u64 = 4;
-
-pub const TAIL: u64 = 5;
-
-pub const FIELD: u64 = 6;
-
-pub const LINK: u64 = 7;
-
-pub const MEMORY: u64 = 8;
-
-pub const MANAGED: u64 = 9;
-
-pub const PORT: u64 = 10;
-
-pub const OVERLAP: u64 = 11;
-
-pub const RUNS: u64 = 12;
-
-pub const SETUP: u64 = 13;
-
-pub const SIZE: u64 = 14;
-
-pub const PIN: u64 = 15;
-
-pub const QUEUE: u64 = 16;
-
-pub const RING: u8 = 17;
-
-pub const AHEAD: u8 = 18;
-
-pub const HEAD: u8 = 19;
-
-pub const CHAIN: u8 = 20;
-
-pub const REACH: u8 = 21;
-
-pub const SHAPE: u8 = 22;
-
-pub const WIDTH: u64 = 23;
-
-pub const HOLE: u64 = 24;
-
-pub const SPLIT: u64 = 25;
-
-pub const UNPLUGGED: u64 = 26;
-
-pub const RECORD: u64 = 27;
+impl Refusal {
+    // Document 01's number: the first is 1.
+    pub fn number(self) -> u8
+        ensures { result ≡ number self }
+    {
+        self as u8 + 1
+    }
+}

@@ -1,4 +1,8 @@
 // The records of a flat view.
+ghost use Rattle.std.specs.Prelude.{◌≡◌, eqb};
+ghost use Rattle.map_records.specs.Map.{kind_number};
+
+use crate::kind::Kind;
 use crate::map::{GuestAddress, RegionOffset};
 
 // The most ranges of a view.
@@ -14,6 +18,15 @@ pub struct FlatRange {
     pub offset: RegionOffset,
     pub kind: u64,
     pub base: u64,
+}
+
+impl FlatRange {
+    // Is its region of this kind?
+    pub fn has_kind(self, kind: Kind) -> bool
+        ensures { result ≡ eqb self.kind (kind_number kind) }
+    {
+        self.kind == kind.number()
+    }
 }
 
 // Document 01's flat list: the first `count` ranges, ascending. A view lies as words with its owner, and only

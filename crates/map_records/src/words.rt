@@ -76,19 +76,6 @@ pub fn put_region(map: &mut [u64], n: usize, region: Region)
     map[at + 8] = region.alias_offset;
 }
 
-// One record's words laid over another's.
-pub fn copy_words(to: &mut [u64], from: &[u64])
-    requires { length to.old ≡ length from.now }
-    ensures { to.new ≡ from.now }
-{
-    let n = from.len();
-    let mut i: usize = 0;
-    while i < n {
-        to[i] = from[i];
-        i += 1;
-    }
-}
-
 // How many ranges a view has.
 pub fn count_of(view: &[u64]) -> usize
     requires { length view.now ≡ view_length }

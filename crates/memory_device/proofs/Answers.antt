@@ -1,72 +1,123 @@
 -- The promises fix the answers: two answers that stand for the same one are equal. Assumes nothing.
 use mathlib.Core.Path.{◌≡◌, refl, ap, ◌∙◌}
-use mathlib.Core.Bool.{cond}
+use mathlib.Core.Bool.{false, cond}
+use mathlib.Core.List.{List}
+use Prim.Native.Nat.{ℕ}
 use lib.Dec.{eqb}
-use Rattle.map_check.specs.Reply.{Reply, accepted, nodes, place, plain}
-use Rattle.map_check.proofs.Answers.{injective, answer_of, reply_back, reply_form}
-use Rattle.device_words.specs.Device.{MemoryDevice}
+use Rattle.std.specs.Prelude.{Result, Ok, Err, Option, Some, None}
+use Rattle.map_check.specs.Reply.{Reply, accepted, nodes, place, plain, reply_by, passes}
+use Rattle.map_check.specs.declared.answer.RecordFault.{RecordFault}
+use Rattle.map_check.specs.declared.check.MapFault.{MapFault}
+use Rattle.map_check.proofs.Answers.{injective, answer_of, reply_back, fault_form}
+use Rattle.map_check.proofs.Bools.{never}
+use Rattle.device_words.specs.Device.{MemoryDevice, no_device}
+use Rattle.device_words.specs.declared.block.BlockNumber.{BlockNumber}
 use Rattle.device_words.specs.Request as carry
 use Rattle.memory_device.specs.Record as host
-use Rattle.memory_device.specs.Record.{host_reply, record_of}
+use Rattle.memory_device.specs.Record.{host_fault_reply, host_reply, record_fault_reply, record_reply, record_of, outcome_by}
 use Rattle.memory_device.specs.Request as request-of
 use Rattle.memory_device.specs.Host as byte
-use Rattle.memory_device.specs.SetUp.{set_up_reply}
+use Rattle.memory_device.specs.SetUp.{set_up_fault_reply, set_up_reply}
 use Rattle.memory_device.specs.SetUp as set-up-of
-use Rattle.memory_device.specs.declared.device.HostAnswer.{HostAnswer}
-use Rattle.memory_device.specs.declared.device.HostAnswer.TheVariants.{Done, Size, Pin, Record}
-use Rattle.memory_device.specs.declared.device.Changed.{Changed}
+use Rattle.memory_device.specs.declared.device.HostFault.{HostFault}
+use Rattle.memory_device.specs.declared.device.HostFault.TheVariants.{Size, Pin, Record}
 use Rattle.memory_device.specs.declared.device.MemoryDevice as value
-use Rattle.memory_device.specs.declared.host.Configuration.{Configuration}
 use Rattle.memory_device.specs.declared.request.Carried.{Carried}
-use Rattle.memory_device.specs.declared.setup.SetUp.{SetUp}
-use Rattle.memory_device.specs.declared.calls.ByteBlock.{ByteBlock}
-use Rattle.memory_device.specs.declared.calls.ByteBlock.TheVariants as found
-use Rattle.memory_device.specs.declared.setup.SetUpAnswer.{SetUpAnswer}
-use Rattle.memory_device.specs.declared.setup.SetUpAnswer.TheVariants.{Checked, Values}
+use Rattle.memory_device.specs.declared.setup.SetUpFault.{SetUpFault}
+use Rattle.memory_device.specs.declared.setup.SetUpFault.TheVariants.{Map, Values}
 
-abbrev host_of : Reply → HostAnswer
-host_of accepted = Done
-host_of (nodes k i j) = Done
-host_of (place k p) = Done
-host_of (plain k) = cond (eqb k 14) Size (cond (eqb k 15) Pin Record)
+-- the answer of a reply: the value x, or the fault that f reads
+abbrev answer_by : {A E : Type 0} → (Reply → E) → A → Reply → Result A E
+answer_by f x accepted = Ok x
+answer_by f x (nodes k i j) = Err (f (nodes k i j))
+answer_by f x (place k p) = Err (f (place k p))
+answer_by f x (plain k) = Err (f (plain k))
 
-host_back : (a : HostAnswer) → host_of (host_reply a) ≡ a
-host_back Done = refl
-host_back Size = refl
-host_back Pin = refl
-host_back Record = refl
+-- a fault has a number above 0, by which it is read back
+record Read {E : Type 0} (reply : E → Reply) (f : Reply → E) : Type 0 where
+  refuses : (e : E) → passes (reply e) ≡ false
+  back : (e : E) → f (reply e) ≡ e
 
-pub host_reply_injective : (a b : HostAnswer) → host_reply a ≡ host_reply b → a ≡ b
-host_reply_injective = injective host_reply host_of host_back
+fault_back : {A E : Type 0} (reply : E → Reply) (f : Reply → E) → Read reply f → (x : A) (e : E) → answer_by f x (reply e) ≡ Err e
+fault_back reply f r x e = go (reply e) (r.refuses e) ∙ ap Err (r.back e)
+  where
+    go : (q : Reply) → passes q ≡ false → answer_by f x q ≡ Err (f q)
+    go accepted p = absurd (never p)
+    go (nodes k i j) p = refl
+    go (place k q) p = refl
+    go (plain k) p = refl
 
-abbrev set_up_of : Reply → SetUpAnswer
-set_up_of accepted = Checked (answer_of accepted)
-set_up_of (nodes k i j) = Checked (answer_of (nodes k i j))
-set_up_of (place k p) = Values
-set_up_of (plain k) = Values
+abbrev host_fault_of : Reply → HostFault
+host_fault_of accepted = Record
+host_fault_of (nodes k i j) = Record
+host_fault_of (place k p) = Record
+host_fault_of (plain k) = cond (eqb k 14) Size (cond (eqb k 15) Pin Record)
 
-set_up_back : (a : SetUpAnswer) → set_up_of (set_up_reply a) ≡ a
-set_up_back Values = refl
-set_up_back (Checked a) = reply_form (λ r. set_up_of r ≡ Checked (answer_of r)) refl (λ k i j. refl) a ∙ ap Checked (reply_back a)
+host_read : Read host_fault_reply host_fault_of
+host_read = record { refuses = refuses; back = back }
+  where
+    refuses : (e : HostFault) → passes (host_fault_reply e) ≡ false
+    refuses Size = refl
+    refuses Pin = refl
+    refuses Record = refl
 
-pub set_up_reply_injective : (a b : SetUpAnswer) → set_up_reply a ≡ set_up_reply b → a ≡ b
-set_up_reply_injective = injective set_up_reply set_up_of set_up_back
+    back : (e : HostFault) → host_fault_of (host_fault_reply e) ≡ e
+    back Size = refl
+    back Pin = refl
+    back Record = refl
 
-byte_block_of : byte.ByteIn → ByteBlock
-byte_block_of (byte.block b) = found.At (record { 0 = b })
-byte_block_of byte.outside = found.Outside
-byte_block_of (byte.refused r) = found.Record
+record_read : Read record_fault_reply (λ _. record {})
+record_read = record { refuses = λ e. refl; back = λ e. refl }
 
-byte_back : (a : ByteBlock) → byte_block_of (byte.byte_of a) ≡ a
+-- ---- an answer alone
+unit_back : {E : Type 0} (reply : E → Reply) (f : Reply → E) → Read reply f → (a : Result Unit E) → answer_by f tt (reply_by reply a) ≡ a
+unit_back reply f r (Ok _) = refl
+unit_back reply f r (Err e) = fault_back reply f r tt e
+
+pub host_reply_injective : (a b : Result Unit HostFault) → host_reply a ≡ host_reply b → a ≡ b
+host_reply_injective = injective host_reply (answer_by host_fault_of tt) (unit_back host_fault_reply host_fault_of host_read)
+
+pub record_reply_injective : (a b : Result Unit RecordFault) → record_reply a ≡ record_reply b → a ≡ b
+record_reply_injective = injective record_reply (answer_by (λ _. record {}) tt) (unit_back record_fault_reply (λ _. record {}) record_read)
+
+-- of a set-up
+abbrev map_fault_in : Result Unit MapFault → SetUpFault
+map_fault_in (Ok _) = Values
+map_fault_in (Err e) = Map e
+
+abbrev set_up_fault_of : Reply → SetUpFault
+set_up_fault_of r = map_fault_in (answer_of r)
+
+set_up_read : Read set_up_fault_reply set_up_fault_of
+set_up_read = record { refuses = refuses; back = back }
+  where
+    refuses : (e : SetUpFault) → passes (set_up_fault_reply e) ≡ false
+    refuses (Map e) = fault_form (λ r. passes r ≡ false) (λ k i j. refl) e
+    refuses Values = refl
+
+    back : (e : SetUpFault) → set_up_fault_of (set_up_fault_reply e) ≡ e
+    back (Map e) = ap map_fault_in (reply_back (Err e))
+    back Values = refl
+
+pub set_up_reply_injective : (a b : Result Unit SetUpFault) → set_up_reply a ≡ set_up_reply b → a ≡ b
+set_up_reply_injective = injective set_up_reply (answer_by set_up_fault_of tt) (unit_back set_up_fault_reply set_up_fault_of set_up_read)
+
+-- ---- a block
+byte_block_of : byte.ByteIn → Result (Option BlockNumber) RecordFault
+byte_block_of (byte.block b) = Ok (Some (record { 0 = b }))
+byte_block_of byte.outside = Ok None
+byte_block_of (byte.refused r) = Err (record {})
+
+byte_back : (a : Result (Option BlockNumber) RecordFault) → byte_block_of (byte.byte_of a) ≡ a
 unfolding byte_block_of
-byte_back (found.At b) = refl
-byte_back found.Outside = refl
-byte_back found.Record = refl
+byte_back (Ok (Some b)) = refl
+byte_back (Ok None) = refl
+byte_back (Err e) = refl
 
-pub byte_block_injective : (a b : ByteBlock) → byte.byte_of a ≡ byte.byte_of b → a ≡ b
+pub byte_block_injective : (a b : Result (Option BlockNumber) RecordFault) → byte.byte_of a ≡ byte.byte_of b → a ≡ b
 byte_block_injective = injective byte.byte_of byte_block_of byte_back
 
--- ---- with the record that goes by value beside an answer
+-- ---- the record by value
 value_of : MemoryDevice → value.MemoryDevice
 value_of d =
     record {
@@ -86,42 +137,48 @@ value_back d = refl
 pub record_injective : (a b : value.MemoryDevice) → record_of a ≡ record_of b → a ≡ b
 record_injective = injective record_of value_of value_back
 
-changed_of : host.HostOutcome → Changed
-changed_of o = record { answer = host_of o.reply; device = value_of o.device }
+-- the next state, or a fault
+module _ {E : Type 0} (reply : E → Reply) (f : Reply → E) (r : Read reply f) (d : MemoryDevice) where
+  outcome_answer : host.HostOutcome → Result value.MemoryDevice E
+  outcome_answer o = answer_by f (value_of o.device) o.reply
 
-changed_back : (c : Changed) → changed_of (host.host_outcome_of c) ≡ c
-unfolding changed_of value_of
-changed_back c = ap (λ a. record { answer = a; device = c.device }) (host_back c.answer)
+  outcome_back : (a : Result value.MemoryDevice E) → outcome_answer (outcome_by reply d a) ≡ a
+  unfolding outcome_answer value_of
+  outcome_back (Ok next) = refl
+  outcome_back (Err e) = fault_back reply f r (value_of d) e
 
-pub changed_injective : (a b : Changed) → host.host_outcome_of a ≡ host.host_outcome_of b → a ≡ b
-changed_injective = injective host.host_outcome_of changed_of changed_back
+  outcome_injective : (a b : Result value.MemoryDevice E) → outcome_by reply d a ≡ outcome_by reply d b → a ≡ b
+  outcome_injective = injective (outcome_by reply d) outcome_answer outcome_back
 
-carried_of : carry.RequestOutcome → Carried
-carried_of o = record { answer = host_of o.reply; response = o.response; device = value_of o.device }
+pub changed_injective : (d : MemoryDevice) (a b : Result value.MemoryDevice HostFault) → host.host_outcome_of d a ≡ host.host_outcome_of d b → a ≡ b
+changed_injective = outcome_injective host_fault_reply host_fault_of host_read
 
-carried_back : (c : Carried) → carried_of (request-of.request_outcome_of c) ≡ c
+pub reset_injective : (d : MemoryDevice) (a b : Result value.MemoryDevice RecordFault) → host.record_outcome_of d a ≡ host.record_outcome_of d b → a ≡ b
+reset_injective = outcome_injective record_fault_reply (λ _. record {}) record_read
+
+pub set_up_injective : (a b : Result value.MemoryDevice SetUpFault) → set-up-of.set_up_outcome_of a ≡ set-up-of.set_up_outcome_of b → a ≡ b
+set_up_injective = outcome_injective set_up_fault_reply set_up_fault_of set_up_read no_device
+
+-- the response too
+carried_of : carry.RequestOutcome → Result Carried RecordFault
+carried_of o = answer_by (λ _. record {}) (record { response = o.response; device = value_of o.device }) o.reply
+
+carried_back : (d : MemoryDevice) (c : Result Carried RecordFault) → carried_of (request-of.request_outcome_of d c) ≡ c
 unfolding carried_of value_of
-carried_back c = ap (λ a. record { answer = a; response = c.response; device = c.device }) (host_back c.answer)
+carried_back d (Ok c) = refl
+carried_back d (Err e) = refl
 
-pub carried_injective : (a b : Carried) → request-of.request_outcome_of a ≡ request-of.request_outcome_of b → a ≡ b
-carried_injective = injective request-of.request_outcome_of carried_of carried_back
+pub carried_injective : (d : MemoryDevice) (a b : Result Carried RecordFault) → request-of.request_outcome_of d a ≡ request-of.request_outcome_of d b → a ≡ b
+carried_injective d = injective (request-of.request_outcome_of d) carried_of (carried_back d)
 
-configuration_of : byte.ConfigurationRead → Configuration
-configuration_of r = record { answer = host_of r.reply; bytes = r.bytes }
+-- the configuration's bytes
+configuration_of : byte.ConfigurationRead → Result (List ℕ) RecordFault
+configuration_of r = answer_by (λ _. record {}) r.bytes r.reply
 
-configuration_back : (c : Configuration) → configuration_of (byte.read_of c) ≡ c
+configuration_back : (c : Result (List ℕ) RecordFault) → configuration_of (byte.read_of c) ≡ c
 unfolding configuration_of
-configuration_back c = ap (λ a. record { answer = a; bytes = c.bytes }) (host_back c.answer)
+configuration_back (Ok bytes) = refl
+configuration_back (Err e) = refl
 
-pub configuration_injective : (a b : Configuration) → byte.read_of a ≡ byte.read_of b → a ≡ b
+pub configuration_injective : (a b : Result (List ℕ) RecordFault) → byte.read_of a ≡ byte.read_of b → a ≡ b
 configuration_injective = injective byte.read_of configuration_of configuration_back
-
-set_of : host.HostOutcome → SetUp
-set_of o = record { answer = set_up_of o.reply; device = value_of o.device }
-
-set_back : (s : SetUp) → set_of (set-up-of.set_up_outcome_of s) ≡ s
-unfolding set_of value_of
-set_back s = ap (λ a. record { answer = a; device = s.device }) (set_up_back s.answer)
-
-pub set_up_injective : (a b : SetUp) → set-up-of.set_up_outcome_of a ≡ set-up-of.set_up_outcome_of b → a ≡ b
-set_up_injective = injective set-up-of.set_up_outcome_of set_of set_back

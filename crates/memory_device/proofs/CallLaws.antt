@@ -6,12 +6,15 @@ use mathlib.Core.Logic.{◌⊎◌, inl, inr, ⊎_elim}
 use Prim.Native.Nat.{ℕ, ◌/◌, ◌≤◌, ◌<◌, min, max}
 use native.Mathlib.Omega.{arith}
 use native.Mathlib.Decide.{dec_le}
-use lib.Dec.{eqb}
+use lib.Dec.{eqb, ltb}
 use lib.ListN.{length, set}
-use borrow.Author.Tests.{le-ltb, eq-eqb, ne_eqb, eqb-true, eqb-false}
-use Rattle.map_check.specs.Reply.{Reply, plain, passes}
-use Rattle.map_check.proofs.Bools.{and_off}
-use Rattle.device_words.specs.Table.{within}
+use borrow.Author.Tests.{le-ltb, lt-ltb, eq-eqb, ne_eqb, eqb-true, eqb-false}
+use Rattle.std.specs.Result.{IsErr, IsErrAnd}
+use Rattle.std.specs.Prelude.{Result, Ok, Err, Option, replicate}
+use Rattle.map_check.specs.Reply.{Reply, accepted, plain, passes, reply_by}
+use Rattle.map_check.specs.declared.answer.RecordFault.{RecordFault}
+use Rattle.map_check.proofs.Bools.{and_off, never}
+use Rattle.device_words.specs.Table.{bit_at, within}
 use Rattle.device_words.specs.Device.{MemoryDevice, is_pinned, sizes_of, with_pins, with_pin, fresh, device_ok}
 use Rattle.device_words.specs.Promises.{Valid, ValidWords, Responds}
 use Rattle.device_words.specs.Request.{answered, changed_by, request_of, carried_out, RequestOutcome as Carried}
@@ -21,47 +24,51 @@ use Rattle.device_words.specs.declared.request.Response.{Response}
 use Rattle.device_words.proofs.TableLaws.{table_length_lem, past_bit}
 use Rattle.device_words.proofs.AnswerLaws.{table_whole}
 use Rattle.device_words.proofs.DeviceWords.{device_at_lem, device_none, halves, record_back, plugged_length, pins_length, ok_length, ok_device, not_device}
-use Rattle.device_words.proofs.RuleLaws.{device_valid, blocks_bound}
-use Rattle.memory_device.specs.Record.{HostOutcome, host_reply}
-use Rattle.memory_device.specs.Host.{host_refusal, done, if_ok, pin_fault, with_requested, configuration_of, ConfigurationRead, configured_into}
-use Rattle.memory_device.specs.Request.{carried_into}
-use Rattle.memory_device.specs.Leaves.{words_left, LeavesDevice, ReadsConfiguration, Carries}
-use Rattle.memory_device.specs.declared.device.HostAnswer.{HostAnswer}
-use Rattle.memory_device.specs.declared.device.HostAnswer.TheVariants.{Done, Record}
+use Rattle.device_words.proofs.RuleLaws.{device_valid, blocks_bound, blocks_mono}
+use Rattle.memory_device.specs.Record.{HostOutcome, host_fault_reply, host_reply, record_reply, outcome_by}
+use Rattle.memory_device.specs.Host.{host_refusal, done, if_ok, pin_fault, turn_fault, with_requested, configuration_of, ConfigurationRead, configured_into, read_of, byte_block, byte_of}
+use Rattle.memory_device.specs.Request.{carried_into, request_outcome_of}
+use Rattle.memory_device.specs.Leaves.{words_left, LeavesDevice, ReadsConfiguration, Carries, ByValue}
+use Rattle.memory_device.specs.declared.device.HostFault.{HostFault}
+use Rattle.memory_device.specs.declared.device.HostFault.TheVariants.{Size, Pin, Record}
+use Rattle.memory_device.specs.declared.device.MemoryDevice as value
+use Rattle.memory_device.specs.declared.request.Carried as value-carried
+use Rattle.device_words.specs.declared.block.BlockNumber.{BlockNumber}
+
+-- ---- the 27 that `?` passes on
+pub host_27 : {A : Type 0} (r : Result A HostFault) → IsErrAnd r (λ e. e ≡ Record) → host_reply r ≡ plain 27
+host_27 (Ok _) h = absurd h
+host_27 (Err e) h = ap host_fault_reply h
+
+pub record_27 : {A : Type 0} (r : Result A RecordFault) → IsErr r → record_reply r ≡ plain 27
+record_27 (Ok _) h = absurd (never (sym h))
+record_27 (Err e) h = refl
 
 -- ---- a call on words: 27, then a fault of its own, then a change
-module _ (w : List ℕ) (x : Bool) (e : x ≡ (is_device w && device_ok (device_of w))) where
-  pub left_27 : (o : HostOutcome) → x ≡ false → LeavesDevice (if_ok (device_of w) o) w Record w
-  left_27 o h = rw (not_device w x e h) (record { reply = refl; words = refl })
+pub left_27 : (w : List ℕ) → false ≡ (is_device w && device_ok (device_of w)) → (o : HostOutcome) (r : Reply) → r ≡ plain 27
+    → LeavesDevice (if_ok (device_of w) o) w r w
+left_27 w e o r h = rw (not_device w false e refl) (record { reply = h; words = refl })
 
-  module _ (h : x ≡ true) where
-    pub sound_length : length w ≡ device_length
-    sound_length = ok_length w x e h
+module _ (w : List ℕ) (e : true ≡ (is_device w && device_ok (device_of w))) where
+  pub sound_length : length w ≡ device_length
+  sound_length = ok_length w true e refl
 
-    pub sound : ValidWords w
-    sound = record { size = sound_length; valid = rw (device_at_lem w sound_length) at (device_valid (device_of w) (ok_device w x e h)) }
+  pub sound_device : device_ok (device_of w) ≡ true
+  sound_device = ok_device w true e refl
 
-    module _ (fault : MemoryDevice → Bool) (k : ℕ) (next : MemoryDevice → MemoryDevice) where
-      pub left_fault : (a : HostAnswer) → host_reply a ≡ plain k → fault (device_at w) ≡ true
-          → LeavesDevice (if_ok (device_of w) (cond (fault (device_of w)) (host_refusal k (device_of w)) (done (next (device_of w))))) w a w
-      left_fault a r f = rw (ok_device w x e h, ap fault (device_at_lem w sound_length) ∙ f) (record { reply = r; words = refl })
+  pub sound : ValidWords w
+  sound = record { size = sound_length; valid = rw (device_at_lem w sound_length) at (device_valid (device_of w) sound_device) }
 
-      pub left_done : (w' : List ℕ) → fault (device_at w) ≡ false → w' ≡ device_words (next (device_at w))
-          → LeavesDevice (if_ok (device_of w) (cond (fault (device_of w)) (host_refusal k (device_of w)) (done (next (device_of w))))) w Done w'
-      left_done w' f p =
-          rw (ok_device w x e h, ap fault (device_at_lem w sound_length) ∙ f)
-          (record { reply = refl; words = p ∙ ap (λ (d : MemoryDevice). device_words (next d)) (sym (device_at_lem w sound_length)) })
+  module _ (fault : MemoryDevice → Bool) (k : ℕ) (next : MemoryDevice → MemoryDevice) where
+    pub left_fault : fault (device_at w) ≡ true
+        → LeavesDevice (if_ok (device_of w) (cond (fault (device_of w)) (host_refusal k (device_of w)) (done (next (device_of w))))) w (plain k) w
+    left_fault f = rw (sound_device, ap fault (device_at_lem w sound_length) ∙ f) (record { reply = refl; words = refl })
 
--- the test of a pin, and its refusal
-pub pin_test : (x y z : Bool) → (x && (y && not z)) ≡ not (not x || not y || z)
-pin_test true true true = refl
-pin_test true true false = refl
-pin_test true false true = refl
-pin_test true false false = refl
-pin_test false true true = refl
-pin_test false true false = refl
-pin_test false false true = refl
-pin_test false false false = refl
+    pub left_done : (w' : List ℕ) → fault (device_at w) ≡ false → w' ≡ device_words (next (device_at w))
+        → LeavesDevice (if_ok (device_of w) (cond (fault (device_of w)) (host_refusal k (device_of w)) (done (next (device_of w))))) w accepted w'
+    left_done w' f p =
+        rw (sound_device, ap fault (device_at_lem w sound_length) ∙ f)
+        (record { reply = refl; words = p ∙ ap (λ (d : MemoryDevice). device_words (next d)) (sym (device_at_lem w sound_length)) })
 
 -- a host's number as a block: the same number, or one that is outside every region as that number is
 pub host_same : (n b : ℕ) → b ≡ min n 65535 → b < 1024 → b ≡ n
@@ -74,16 +81,40 @@ host_block P n b e p far = go (dec_le n 65535)
     go (yes h) = subst P (let z : n ≡ b = omega (arith, e, h) in z) p
     go (no h) = far (omega (arith, e, h)) (omega (arith, e, h))
 
-pub host_fault : (d : MemoryDevice) → Valid d → (n b : ℕ) → b ≡ min n 65535 → pin_fault d b ≡ pin_fault d n
-host_fault d v n b e = host_block (λ x. pin_fault d x ≡ pin_fault d n) n b e refl (λ p q. outside b p ∙ sym (outside n q))
+pub host_turn : (d : MemoryDevice) → Valid d → length d.pinned ≡ 16 → (n b : ℕ) → b ≡ min n 65535 → (on : Bool) → turn_fault d b on ≡ turn_fault d n on
+host_turn d v l n b e true = host_block (λ x. pin_fault d x ≡ pin_fault d n) n b e refl (λ p q. outside b p ∙ sym (outside n q))
   where
     outside : (x : ℕ) → 1024 ≤ x → pin_fault d x ≡ true
     outside x h =
         let room = blocks_bound d.block_size d.region_size 1024 (omega (arith, v.least)) v.blocks in
         rw (le-ltb x (d.region_size / d.block_size) (omega (arith, room, h)))
+host_turn d v l n b e false =
+    ap not (host_block (λ x. is_pinned d x ≡ is_pinned d n) n b e refl (λ p q. past_bit d.pinned b l p ∙ sym (past_bit d.pinned n l q)))
 
-pub host_pinned : (d : MemoryDevice) → length d.pinned ≡ 16 → (n b : ℕ) → b ≡ min n 65535 → is_pinned d b ≡ is_pinned d n
-host_pinned d l n b e = host_block (λ x. is_pinned d x ≡ is_pinned d n) n b e refl (λ p q. past_bit d.pinned b l p ∙ sym (past_bit d.pinned n l q))
+-- a block that is outside the region or unplugged is not pinned either, so that it is neither pinned nor let go
+pub turn_refused : (d : MemoryDevice) → Valid d → length d.pinned ≡ 16 → (b : ℕ) (on : Bool) → (ltb b (d.region_size / d.block_size) && bit_at d.plugged b) ≡ false → turn_fault d b on ≡ true
+turn_refused d v l b true h = go (ltb b (d.region_size / d.block_size)) (bit_at d.plugged b) h
+  where
+    go : (x y : Bool) → (x && y) ≡ false → (not x || not y || is_pinned d b) ≡ true
+    go true true e = absurd (never e)
+    go true false e = refl
+    go false y e = refl
+turn_refused d v l b false h = ap not (go (is_pinned d b) refl)
+  where
+    held : is_pinned d b ≡ true → b < 1024 → (ltb b (d.region_size / d.block_size) && bit_at d.plugged b) ≡ true
+    held e m =
+        let plugged = v.held b m e in
+        let below = v.inside b m plugged in
+        let more = blocks_mono d.block_size d.usable_size d.region_size (omega (arith, v.least)) v.usable in
+        rw (lt-ltb b (d.region_size / d.block_size) (omega (arith, below, more)), plugged)
+
+    go : (x : Bool) → is_pinned d b ≡ x → x ≡ false
+    go false e = refl
+    go true e = far (dec_le 1024 b)
+      where
+        far : Dec (1024 ≤ b) → true ≡ false
+        far (yes k) = sym e ∙ past_bit d.pinned b l k
+        far (no k) = sym (held e (omega (arith, k))) ∙ h
 
 -- ---- the words that the changes leave
 pub requested_stored : (w : List ℕ) (usable size : ℕ) → length w ≡ device_length → usable ≡ max (device_at w).usable_size size
@@ -121,26 +152,40 @@ read_back d reply next w w' e p f =
     (λ (r : (passes reply ≡ true) × Whole next). ap device_of (p ∙ ap (λ (x : Bool). cond x (device_words next) w) r.0) ∙ record_back next r.1.plugged r.1.pins)
     f
 
-module _ (d : MemoryDevice) (w w' : List ℕ) (a : HostAnswer) (m : MemoryDevice) (e : device_of w ≡ d) (g : m ≡ device_of w') where
-  whole : Whole d
-  whole = rw e at (whole_words w)
+-- the answer by value, of a call whose outcome on a record d is `o d`
+module _ {E : Type 0} (reply : E → Reply) (refuses : (e : E) → passes (reply e) ≡ false) (d : MemoryDevice) (h : Whole d) (o : MemoryDevice → HostOutcome) (f : Fair d (o d).reply (o d).device) where
+  refused_state : (e : E) → reply e ≡ (o d).reply → (o d).device ≡ d
+  refused_state e p =
+      ⊎_elim
+      (λ (r : (passes (o d).reply ≡ false) × ((o d).device ≡ d)). r.1)
+      (λ (r : (passes (o d).reply ≡ true) × Whole (o d).device). absurd (never (sym (sym (refuses e) ∙ ap passes p ∙ r.0))))
+      f
 
-  -- what judges 27, then a fault, then changes: each next state is one of whole tables, where the given one has them
-  pub by_value : (fault : MemoryDevice → Bool) (k : ℕ) (next : MemoryDevice → MemoryDevice) → (Whole d → Whole (next d))
-      → LeavesDevice (if_ok (device_of w) (cond (fault (device_of w)) (host_refusal k (device_of w)) (done (next (device_of w))))) w a w'
-      → ◌≡◌ {A = HostOutcome} (record { reply = host_reply a; device = m }) (if_ok d (cond (fault d) (host_refusal k d) (done (next d))))
-  by_value fault k next f l =
-      let o = if_ok d (cond (fault d) (host_refusal k d) (done (next d))) in
-      let h : LeavesDevice o w a w' = rw e at l in
-      both h.reply (g ∙ read_back d o.reply o.device w w' e h.words (fair (device_ok d) (fault d)))
+  pub by_value : (w : List ℕ) → w ≡ device_words d → (answer : Result Unit E) (w' : List ℕ) → LeavesDevice (o (device_of w)) w (reply_by reply answer) w'
+      → (r : Result value.MemoryDevice E) → ByValue answer w' r → outcome_by reply d r ≡ o d
+  by_value w s answer w' l r g =
+      let e : device_of w ≡ d = ap device_of s ∙ record_back d h.plugged h.pins in
+      let h : LeavesDevice (o d) w (reply_by reply answer) w' = rw e at l in
+      go answer r g h.reply (read_back d (o d).reply (o d).device w w' e h.words f)
     where
-      fair : (x y : Bool) → Fair d (cond x (cond y (host_refusal k d) (done (next d))) (host_refusal 27 d)).reply (cond x (cond y (host_refusal k d) (done (next d))) (host_refusal 27 d)).device
-      fair true true = inl (refl, refl)
-      fair true false = inr (refl, f whole)
-      fair false y = inl (refl, refl)
+      go : (a : Result Unit E) (r : Result value.MemoryDevice E) → ByValue a w' r → reply_by reply a ≡ (o d).reply → device_of w' ≡ (o d).device → outcome_by reply d r ≡ o d
+      go (Ok _) (Ok next) g p q = λ i. record { reply = p i; device = (g ∙ q) i }
+      go (Ok _) (Err x) g p q = absurd g
+      go (Err y) (Ok next) g p q = absurd g
+      go (Err y) (Err x) g p q =
+          let s : reply x ≡ (o d).reply = ap reply g ∙ p in
+          let t : d ≡ (o d).device = sym (refused_state x s) in
+          λ i. record { reply = s i; device = t i }
 
-      both : {r s : Reply} {x y : MemoryDevice} → r ≡ s → x ≡ y → ◌≡◌ {A = HostOutcome} (record { reply = r; device = x }) (record { reply = s; device = y })
-      both p q = λ i. record { reply = p i; device = q i }
+-- what `?` passes on is the call's refusal
+pub refusal_by_value : {E : Type 0} (r : Result value.MemoryDevice E) (x : E) (w : List ℕ) → IsErr r → IsErrAnd r (λ e. e ≡ x) → ByValue (Err x) w r
+refusal_by_value (Ok _) x w h p = absurd (never (sym h))
+refusal_by_value (Err e) x w h p = p
+
+pub host_refuses : (e : HostFault) → passes (host_fault_reply e) ≡ false
+host_refuses Size = refl
+host_refuses Pin = refl
+host_refuses Record = refl
 
 -- the tables of the next states
 pub whole_requested : (d : MemoryDevice) (size : ℕ) → Whole d → Whole (with_requested d size)
@@ -155,65 +200,100 @@ whole_fresh d h = record { plugged = refl; pins = refl }
 whole_changed : (d : MemoryDevice) (r : Request) (x : Response) → Whole d → Whole (changed_by d r x)
 whole_changed d r x h = record { plugged = table_whole (sizes_of d) d.plugged r x h.plugged; pins = h.pins }
 
+-- ---- an outcome that may be 27, 14 or 15: each next state is one of whole tables, where the given one has them
+pub fair : (d : MemoryDevice) → Whole d → (fault : Bool) (k : ℕ) (next : MemoryDevice) → (Whole d → Whole next)
+    → Fair d (if_ok d (cond fault (host_refusal k d) (done next))).reply (if_ok d (cond fault (host_refusal k d) (done next))).device
+fair d h fault k next f = go (device_ok d) fault
+  where
+    go : (x y : Bool) → Fair d (cond x (cond y (host_refusal k d) (done next)) (host_refusal 27 d)).reply (cond x (cond y (host_refusal k d) (done next)) (host_refusal 27 d)).device
+    go true true = inl (refl, refl)
+    go true false = inr (refl, f h)
+    go false y = inl (refl, refl)
+
 -- ---- a request
-module _ (w s out : List ℕ) (x : Bool) (e : x ≡ (is_device w && device_ok (device_of w))) where
-  pub carries_done : length out ≡ 10 → x ≡ true → (out' response w' : List ℕ) → out' ≡ response → Responds w s response w'
-      → Carries (carried_into (device_of w) s out) w Done out' w'
-  unfolding carried_into
-  carries_done l h out' response w' p q = rw (eq-eqb (length out) 10 l, ok_device w x e h) (refl, p ∙ q.0, q.1)
+pub carries_done : (w s out : List ℕ) → true ≡ (is_device w && device_ok (device_of w)) → length out ≡ 10 → (out' response w' : List ℕ) → out' ≡ response → Responds w s response w'
+    → Carries (carried_into (device_of w) s out) w accepted out' w'
+unfolding carried_into
+carries_done w s out e l out' response w' p q = rw (eq-eqb (length out) 10 l, sound_device w e) (refl, p ∙ q.0, q.1)
 
-  pub carries_27 : x ≡ false → Carries (carried_into (device_of w) s out) w Record out w
-  unfolding carried_into
-  carries_27 h = rw (not_device w x e h, and_off (eqb (length out) 10)) (refl, refl, refl)
+pub carries_27 : (w s out : List ℕ) → false ≡ (is_device w && device_ok (device_of w)) → (r : Reply) → r ≡ plain 27 → Carries (carried_into (device_of w) s out) w r out w
+unfolding carried_into
+carries_27 w s out e r h = rw (not_device w false e refl, and_off (eqb (length out) 10)) (h, refl, refl)
 
-pub carries_length : (w s out : List ℕ) → (length out ≡ 10 → ⊥) → Carries (carried_into (device_of w) s out) w Record out w
+pub carries_length : (w s out : List ℕ) → (length out ≡ 10 → ⊥) → Carries (carried_into (device_of w) s out) w (plain 27) out w
 unfolding carried_into
 carries_length w s out n = rw (ne_eqb (length out) 10 n) (refl, refl, refl)
 
-carried_fair : (d : MemoryDevice) (s out : List ℕ) → Whole d → Fair d (carried_into d s out).reply (carried_into d s out).device
-unfolding carried_into
-carried_fair d s out h = go (eqb (length out) 10 && device_ok d)
-  where
-    go : (y : Bool) → Fair d (cond y (carried_out d (request_of s)) (record { reply = plain 27; response = out; device = d })).reply
-        (cond y (carried_out d (request_of s)) (record { reply = plain 27; response = out; device = d })).device
-    go true = inr (refl, whole_changed d (request_of s) (answered d (request_of s)) h)
-    go false = inl (refl, refl)
+-- by value: what is carried out, or the refusal
+module _ (d : MemoryDevice) (s out : List ℕ) where
+  carried_fair : Whole d → Fair d (carried_into d s out).reply (carried_into d s out).device
+  unfolding carried_into
+  carried_fair h = go (eqb (length out) 10 && device_ok d)
+    where
+      go : (y : Bool) → Fair d (cond y (carried_out d (request_of s)) (record { reply = plain 27; response = out; device = d })).reply
+          (cond y (carried_out d (request_of s)) (record { reply = plain 27; response = out; device = d })).device
+      go true = inr (refl, whole_changed d (request_of s) (answered d (request_of s)) h)
+      go false = inl (refl, refl)
 
-pub carried_value : (d : MemoryDevice) (w w' s out out' : List ℕ) (a : HostAnswer) (m : MemoryDevice) → device_of w ≡ d → m ≡ device_of w'
-    → Carries (carried_into (device_of w) s out) w a out' w'
-    → ◌≡◌ {A = Carried} (record { reply = host_reply a; response = out'; device = m }) (carried_into d s out)
-carried_value d w w' s out out' a m e g l =
-    let o = carried_into d s out in
-    let h : Carries o w a out' w' = rw e at l in
-    parts h.0 h.1 (g ∙ read_back d o.reply o.device w w' e h.2 (carried_fair d s out (rw e at (whole_words w))))
-  where
-    parts : {r q : Reply} {b c : List ℕ} {x y : MemoryDevice} → r ≡ q → b ≡ c → x ≡ y
-        → ◌≡◌ {A = Carried} (record { reply = r; response = b; device = x }) (record { reply = q; response = c; device = y })
-    parts p q t = λ i. record { reply = p i; response = q i; device = t i }
+  pub carried_value : (w : List ℕ) {w' out' : List ℕ} {r : Reply} {m : MemoryDevice} → device_of w ≡ d → Carries (carried_into (device_of w) s out) w r out' w' → m ≡ device_of w'
+      → ◌≡◌ {A = Carried} (record { reply = r; response = out'; device = m }) (carried_into d s out)
+  carried_value w {w'} {out'} {r} {m} e l g =
+      let o = carried_into d s out in
+      let h : Carries o w r out' w' = rw e at l in
+      let k : m ≡ o.device = g ∙ read_back d o.reply o.device w w' e h.2 (carried_fair (rw e at (whole_words w))) in
+      λ i. record { reply = h.0 i; response = h.1 i; device = k i }
+
+  pub carried_27 : (w : List ℕ) {w' out' : List ℕ} → device_of w ≡ d → Carries (carried_into (device_of w) s out) w (plain 27) out' w'
+      → ◌≡◌ {A = Carried} (record { reply = plain 27; response = out; device = d }) (carried_into d s out)
+  unfolding carried_into
+  carried_27 w e l = go (eqb (length out) 10 && device_ok d) (rw e at l.0)
+    where
+      go : (y : Bool) → plain 27 ≡ (cond y (carried_out d (request_of s)) (record { reply = plain 27; response = out; device = d })).reply
+          → record { reply = plain 27; response = out; device = d } ≡ cond y (carried_out d (request_of s)) (record { reply = plain 27; response = out; device = d })
+      go true h = absurd (never (ap passes (sym h)))
+      go false h = refl
 
 -- ---- the configuration
-module _ (w out : List ℕ) (x : Bool) (e : x ≡ (is_device w && device_ok (device_of w))) where
-  pub configures : length out ≡ 56 → x ≡ true → (out' : List ℕ) → out' ≡ configuration_of (device_at w)
-      → ReadsConfiguration (configured_into (device_of w) out) Done out'
-  unfolding configured_into
-  configures l h out' p =
-      rw (eq-eqb (length out) 56 l, ok_device w x e h) (refl, p ∙ ap configuration_of (sym (device_at_lem w (ok_length w x e h))))
+pub configures : (w out : List ℕ) → true ≡ (is_device w && device_ok (device_of w)) → length out ≡ 56 → (out' : List ℕ) → out' ≡ configuration_of (device_at w)
+    → ReadsConfiguration (configured_into (device_of w) out) accepted out'
+unfolding configured_into
+configures w out e l out' p = rw (eq-eqb (length out) 56 l, sound_device w e) (refl, p ∙ ap configuration_of (sym (device_at_lem w (sound_length w e))))
 
-  pub configures_27 : x ≡ false → ReadsConfiguration (configured_into (device_of w) out) Record out
-  unfolding configured_into
-  configures_27 h = rw (not_device w x e h, and_off (eqb (length out) 56)) (refl, refl)
+pub configures_27 : (w out : List ℕ) → false ≡ (is_device w && device_ok (device_of w)) → (r : Reply) → r ≡ plain 27 → ReadsConfiguration (configured_into (device_of w) out) r out
+unfolding configured_into
+configures_27 w out e r h = rw (not_device w false e refl, and_off (eqb (length out) 56)) (h, refl)
 
-pub configures_length : (w out : List ℕ) → (length out ≡ 56 → ⊥) → ReadsConfiguration (configured_into (device_of w) out) Record out
+pub configures_length : (w out : List ℕ) → (length out ≡ 56 → ⊥) → ReadsConfiguration (configured_into (device_of w) out) (plain 27) out
 unfolding configured_into
 configures_length w out n = rw (ne_eqb (length out) 56 n) (refl, refl)
 
-pub configured_value : (d : MemoryDevice) (w out out' : List ℕ) (a : HostAnswer) → device_of w ≡ d
-    → ReadsConfiguration (configured_into (device_of w) out) a out'
-    → ◌≡◌ {A = ConfigurationRead} (record { reply = host_reply a; bytes = out' }) (configured_into d out)
-configured_value d w out out' a e l =
-    let o = configured_into d out in
-    let h : ReadsConfiguration o a out' = rw e at l in
-    parts h.0 h.1
+pub configured_value : (d : MemoryDevice) (w out : List ℕ) {out' : List ℕ} {r : Reply} → device_of w ≡ d → ReadsConfiguration (configured_into (device_of w) out) r out'
+    → ◌≡◌ {A = ConfigurationRead} (record { reply = r; bytes = out' }) (configured_into d out)
+configured_value d w out {out'} {r} e l =
+    let h : ReadsConfiguration (configured_into d out) r out' = rw e at l in
+    λ i. record { reply = h.0 i; bytes = h.1 i }
+
+pub configured_27 : (d : MemoryDevice) (w out : List ℕ) {out' : List ℕ} → device_of w ≡ d → ReadsConfiguration (configured_into (device_of w) out) (plain 27) out'
+    → ◌≡◌ {A = ConfigurationRead} (record { reply = plain 27; bytes = out }) (configured_into d out)
+unfolding configured_into
+configured_27 d w out e l = go (eqb (length out) 56 && device_ok d) (rw e at l.0)
   where
-    parts : {r q : Reply} {b c : List ℕ} → r ≡ q → b ≡ c → ◌≡◌ {A = ConfigurationRead} (record { reply = r; bytes = b }) (record { reply = q; bytes = c })
-    parts p q = λ i. record { reply = p i; bytes = q i }
+    go : (y : Bool) → plain 27 ≡ (cond {A = ConfigurationRead} y (record { reply = accepted; bytes = configuration_of d }) (record { reply = plain 27; bytes = out })).reply
+        → ◌≡◌ {A = ConfigurationRead} (record { reply = plain 27; bytes = out }) (cond y (record { reply = accepted; bytes = configuration_of d }) (record { reply = plain 27; bytes = out }))
+    go true h = absurd (never (ap passes (sym h)))
+    go false h = refl
+
+-- ---- a block of a byte
+pub byte_27 : (w : List ℕ) (o : ℕ) → false ≡ (is_device w && device_ok (device_of w)) → (r : Result (Option BlockNumber) RecordFault) → IsErr r → byte_of r ≡ byte_block (device_of w) o
+unfolding byte_block
+byte_27 w o e (Ok _) h = absurd (never (sym h))
+byte_27 w o e (Err _) h = rw (not_device w false e refl)
+
+-- ---- what a method by value passes on
+pub configuration_27 : (d : MemoryDevice) (r : Result (List ℕ) RecordFault) → IsErr r → read_of r ≡ record { reply = plain 27; bytes = replicate 56 0 }
+configuration_27 d (Ok _) h = absurd (never (sym h))
+configuration_27 d (Err _) h = refl
+
+pub request_27 : (d : MemoryDevice) (r : Result value-carried.Carried RecordFault) → IsErr r → request_outcome_of d r ≡ record { reply = plain 27; response = replicate 10 0; device = d }
+request_27 d (Ok _) h = absurd (never (sym h))
+request_27 d (Err _) h = refl

@@ -3,4 +3,5 @@ pub mod Kept
 pub mod LawsForPlugging
 mod CallLaws
 pub mod Plugged
+mod LastManaged
 mod SetUpLaws

@@ -1,16 +1,23 @@
 -- Laws of setting the device up. Assumes nothing.
-use mathlib.Core.Path.{◌≡◌}
+use mathlib.Core.Path.{◌≡◌, refl, ap, ◌∙◌}
 use mathlib.Core.Bool.{true, false}
 use Prim.Native.Nat.{ℕ, ◌+◌}
 use native.Mathlib.Numerals.{add-one}
 use borrow.Author.Tests.{eq-eqb, ne_eqb}
 use Rattle.map_records.specs.Map.{managed, region}
-use Rattle.map_check.specs.Reply.{Reply, accepted, plain, passes}
-use Rattle.map_check.specs.Check.{judged, Accepted}
+use Rattle.map_check.specs.Reply.{accepted, plain, passes}
+use Rattle.map_check.specs.Check.{fault_reply, judged, Accepted}
+use Rattle.map_check.specs.declared.check.MapFault.{MapFault}
+use Rattle.map_check.proofs.Answers.{fault_form}
+use Rattle.std.specs.Prelude.{Result, Ok, Err}
+use Rattle.std.specs.Result.{IsErrAnd}
 use Rattle.map_records.specs.declared.map.RegionMap.{RegionMap}
 use Rattle.map_check.proofs.Replies.{refused_first}
 use Rattle.device_words.specs.Device.{setup_ok}
-use Rattle.memory_device.specs.SetUp.{managed_in, region_size, fresh_device, set_up_refusal, valued, set_up}
+use Rattle.memory_device.specs.SetUp.{managed_in, region_size, fresh_device, set_up_refusal, set_up_fault_reply, valued, set_up, set_up_outcome_of}
+use Rattle.memory_device.specs.declared.device.MemoryDevice as value
+use Rattle.memory_device.specs.declared.setup.SetUpFault.{SetUpFault}
+use Rattle.memory_device.specs.declared.setup.SetUpFault.TheVariants.{Map}
 use Rattle.memory_device.specs.declared.setup.DeviceValues.{DeviceValues}
 
 pub managed_here : (m : RegionMap) (n : ℕ) → (region m n).kind ≡ managed → managed_in m (n + 1) ≡ (region m n).size
@@ -32,6 +39,10 @@ module _ (m : RegionMap) (length : ℕ) (v : DeviceValues) where
   unfolding set_up Accepted
   set_up_values ok h = rw (ok, h)
 
-  pub set_up_refused : (r : Reply) → r ≡ judged m length → passes r ≡ false → set_up_refusal r ≡ set_up m length v
+  -- what `?` passes on is the check's refusal
+  pub set_up_fault : (r : Result value.MemoryDevice SetUpFault) (e : MapFault) → IsErrAnd r (λ f. f ≡ Map e) → fault_reply e ≡ judged m length → set_up_outcome_of r ≡ set_up m length v
   unfolding set_up
-  set_up_refused r e p = refused_first set_up_refusal (valued v (region_size m)) r (judged m length) e p
+  set_up_fault (Ok _) e h p = absurd h
+  set_up_fault (Err f) e h p =
+      ap (λ (x : SetUpFault). set_up_refusal (set_up_fault_reply x)) h
+      ∙ refused_first set_up_refusal (valued v (region_size m)) (fault_reply e) (judged m length) p (fault_form (λ r. passes r ≡ false) (λ k i j. refl) e)

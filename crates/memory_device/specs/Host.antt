@@ -1,14 +1,13 @@
 -- The host's calls: requested size, pins, system reset, configuration. Assumes nothing: these are definitions.
-use Rattle.std.specs.Prelude.{Bool, true, false, cond, ◌&&◌, ◌||◌, not, List, ℕ, ◌/◌, ◌%◌, max, eqb, ltb, length, replicate}
+use Rattle.std.specs.Prelude.{Bool, true, false, cond, ◌&&◌, ◌||◌, not, List, ℕ, ◌/◌, ◌%◌, max, eqb, ltb, length, replicate, Result, Ok, Err, Option, Some, None}
 use Rattle.map_check.specs.Reply.{Reply, accepted, plain}
 use Rattle.device_words.specs.Bytes.{configuration_bytes, configuration_length}
 use Rattle.device_words.specs.Table.{bit_at}
 use Rattle.device_words.specs.Device.{MemoryDevice, is_pinned, with_pins, with_pin, fresh, plugged_size, block_of_byte, device_ok}
-use Rattle.memory_device.specs.Record.{HostOutcome, host_reply}
+use Rattle.memory_device.specs.Record.{HostOutcome, record_fault_reply}
 use Rattle.map_records.specs.Refusal as refusal
-use Rattle.memory_device.specs.declared.host.Configuration.{Configuration}
-use Rattle.memory_device.specs.declared.calls.ByteBlock.{ByteBlock}
-use Rattle.memory_device.specs.declared.calls.ByteBlock.TheVariants.{At, Outside, Record}
+use Rattle.map_check.specs.declared.answer.RecordFault.{RecordFault}
+use Rattle.device_words.specs.declared.block.BlockNumber.{BlockNumber}
 
 -- a refusal gives the state back as it was
 abbrev pub host_refusal : ℕ → MemoryDevice → HostOutcome
@@ -52,6 +51,13 @@ pin_block d b = if_ok d (cond (pin_fault d b) (host_refusal refusal.PIN d) (done
 unfoldable pub unpin_block : MemoryDevice → ℕ → HostOutcome
 unpin_block d b = if_ok d (cond (not (is_pinned d b)) (host_refusal refusal.PIN d) (done (with_pins d (with_pin d.pinned b false))))
 
+-- both as one: a block is pinned, or let go
+abbrev pub turn_fault : MemoryDevice → ℕ → Bool → Bool
+turn_fault d b on = cond on (pin_fault d b) (not (is_pinned d b))
+
+unfoldable pub turn_pin : MemoryDevice → ℕ → Bool → HostOutcome
+turn_pin d b on = if_ok d (cond (turn_fault d b on) (host_refusal refusal.PIN d) (done (with_pins d (with_pin d.pinned b on))))
+
 -- 'A system reset gives the fresh state back; sizes and addr stay'
 unfoldable pub system_reset : MemoryDevice → HostOutcome
 system_reset d = if_ok d (done (fresh d))
@@ -74,8 +80,9 @@ configured_into d bytes =
 abbrev pub configured : MemoryDevice → ConfigurationRead
 configured d = configured_into d (replicate configuration_length 0)
 
-abbrev pub read_of : Configuration → ConfigurationRead
-read_of c = record { reply = host_reply c.answer; bytes = c.bytes }
+abbrev pub read_of : Result (List ℕ) RecordFault → ConfigurationRead
+read_of (Ok bytes) = record { reply = accepted; bytes = bytes }
+read_of (Err e) = record { reply = record_fault_reply e; bytes = replicate configuration_length 0 }
 
 -- the block of a byte of the region, or that the byte lies outside it, or 27
 pub data ByteIn : Type 0 where
@@ -86,7 +93,7 @@ pub data ByteIn : Type 0 where
 unfoldable pub byte_block : MemoryDevice → ℕ → ByteIn
 byte_block d o = cond (device_ok d) (cond (ltb o d.region_size) (block (block_of_byte d o)) outside) (refused (plain refusal.RECORD))
 
-abbrev pub byte_of : ByteBlock → ByteIn
-byte_of (At b) = block b.0
-byte_of Outside = outside
-byte_of Record = refused (plain refusal.RECORD)
+abbrev pub byte_of : Result (Option BlockNumber) RecordFault → ByteIn
+byte_of (Ok (Some b)) = block b.0
+byte_of (Ok None) = outside
+byte_of (Err e) = refused (record_fault_reply e)

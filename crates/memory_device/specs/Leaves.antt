@@ -1,26 +1,40 @@
 -- What a call leaves of a device's words. Assumes nothing: these are definitions.
-use Rattle.std.specs.Prelude.{List, ◌≡◌, ℕ}
+use Rattle.std.specs.Prelude.{List, ◌≡◌, ℕ, Result, Ok, Err}
 use Rattle.map_check.specs.Reply.{Reply, left_words}
 use Rattle.device_words.specs.Device.{MemoryDevice}
-use Rattle.device_words.specs.Words.{device_words}
+use Rattle.device_words.specs.Words.{device_of, device_words}
 use Rattle.device_words.specs.Request as request
-use Rattle.memory_device.specs.Record.{HostOutcome, host_reply}
+use Rattle.memory_device.specs.Record.{HostOutcome, record_of}
+use Rattle.memory_device.specs.declared.device.MemoryDevice as value
 use Rattle.memory_device.specs.Host.{ConfigurationRead}
-use Rattle.memory_device.specs.declared.device.HostAnswer.{HostAnswer}
 
 -- the words of the next state, or on a refusal those that were given
 abbrev pub words_left : Reply → MemoryDevice → List ℕ → List ℕ
 words_left reply d w = left_words reply (device_words d) w
 
--- a call on the words w answers a and leaves w', as its outcome says
-pub record LeavesDevice (o : HostOutcome) (w : List ℕ) (a : HostAnswer) (w' : List ℕ) : Type 0 where
-  pub reply : host_reply a ≡ o.reply
+-- a call on the words w replies r and leaves w', as its outcome says
+pub record LeavesDevice (o : HostOutcome) (w : List ℕ) (r : Reply) (w' : List ℕ) : Type 0 where
+  pub reply : r ≡ o.reply
   pub words : w' ≡ words_left o.reply o.device w
 
--- a request on the words w answers a, and leaves x in the response and w' in the words
-abbrev pub Carries : request.RequestOutcome → List ℕ → HostAnswer → List ℕ → List ℕ → Type 0
-Carries o w a x w' = (host_reply a ≡ o.reply) × (x ≡ o.response) × (w' ≡ words_left o.reply o.device w)
+-- a request on the words w is replied to with r, and leaves x in the response and w' in the words
+abbrev pub Carries : request.RequestOutcome → List ℕ → Reply → List ℕ → List ℕ → Type 0
+Carries o w r x w' = (r ≡ o.reply) × (x ≡ o.response) × (w' ≡ words_left o.reply o.device w)
 
--- a reading of the configuration answers a, and leaves x in the bytes
-abbrev pub ReadsConfiguration : ConfigurationRead → HostAnswer → List ℕ → Type 0
-ReadsConfiguration o a x = (host_reply a ≡ o.reply) × (x ≡ o.bytes)
+-- a reading of the configuration is replied to with r, and leaves x in the bytes
+abbrev pub ReadsConfiguration : ConfigurationRead → Reply → List ℕ → Type 0
+ReadsConfiguration o r x = (r ≡ o.reply) × (x ≡ o.bytes)
+
+-- what a call on a record's words answers and leaves in them, by value: the record that they then are, or its refusal
+abbrev pub ByValue : {E : Type 0} → Result Unit E → List ℕ → Result value.MemoryDevice E → Type 0
+ByValue (Ok _) w (Ok next) = record_of next ≡ device_of w
+ByValue (Ok _) w (Err e) = ⊥
+ByValue (Err f) w (Ok next) = ⊥
+ByValue (Err f) w (Err e) = e ≡ f
+
+-- a record by value, changed by a call on its words, of which `left` says what it may answer and leave
+pub record Changes {E : Type 0} (left : Result Unit E → List ℕ → Type 0) (r : Result value.MemoryDevice E) : Type 0 where
+  pub answer : Result Unit E
+  pub words : List ℕ
+  pub call : left answer words
+  pub value : ByValue answer words r

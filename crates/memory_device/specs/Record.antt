@@ -1,11 +1,12 @@
 -- The device's record by value, and what a call of the host answers. Assumes nothing: these are definitions.
-use Rattle.map_check.specs.Reply.{Reply, accepted, plain}
+use Rattle.std.specs.Prelude.{Result, Ok, Err}
+use Rattle.map_check.specs.Reply.{Reply, accepted, plain, reply_by}
+use Rattle.map_check.specs.declared.answer.RecordFault.{RecordFault}
 use Rattle.device_words.specs.Device.{MemoryDevice}
 use Rattle.map_records.specs.Refusal as refusal
 use Rattle.memory_device.specs.declared.device.MemoryDevice as value
-use Rattle.memory_device.specs.declared.device.Changed.{Changed}
-use Rattle.memory_device.specs.declared.device.HostAnswer.{HostAnswer}
-use Rattle.memory_device.specs.declared.device.HostAnswer.TheVariants as answer
+use Rattle.memory_device.specs.declared.device.HostFault.{HostFault}
+use Rattle.memory_device.specs.declared.device.HostFault.TheVariants as fault
 
 -- the record that a value of the code is, field by field
 abbrev pub record_of : value.MemoryDevice → MemoryDevice
@@ -20,17 +21,36 @@ record_of d =
       pinned = d.pinned;
     }
 
--- document 01's number for each answer of a host call
-abbrev pub host_reply : HostAnswer → Reply
-host_reply answer.Done = accepted
-host_reply answer.Size = plain refusal.SIZE
-host_reply answer.Pin = plain refusal.PIN
-host_reply answer.Record = plain refusal.RECORD
+-- document 01's number for each fault of a host call
+abbrev pub host_fault_reply : HostFault → Reply
+host_fault_reply fault.Size = plain refusal.SIZE
+host_fault_reply fault.Pin = plain refusal.PIN
+host_fault_reply fault.Record = plain refusal.RECORD
+
+-- and for each answer of one
+abbrev pub host_reply : {A : Type 0} → Result A HostFault → Reply
+host_reply = reply_by host_fault_reply
+
+-- the same of a call that is refused with 27 alone
+abbrev pub record_fault_reply : RecordFault → Reply
+record_fault_reply e = plain refusal.RECORD
+
+abbrev pub record_reply : {A : Type 0} → Result A RecordFault → Reply
+record_reply = reply_by record_fault_reply
 
 -- document 01's answer, and the next state
 pub record HostOutcome : Type 0 where
   pub reply : Reply
   pub device : MemoryDevice
 
-abbrev pub host_outcome_of : Changed → HostOutcome
-host_outcome_of c = record { reply = host_reply c.answer; device = record_of c.device }
+-- what an answer by value stands for: where it is a refusal, the state stays d
+abbrev pub outcome_by : {E : Type 0} → (E → Reply) → MemoryDevice → Result value.MemoryDevice E → HostOutcome
+outcome_by reply d (Ok next) = record { reply = accepted; device = record_of next }
+outcome_by reply d (Err e) = record { reply = reply e; device = d }
+
+-- of a call of the host on the record d, and of one that is refused with 27 alone
+abbrev pub host_outcome_of : MemoryDevice → Result value.MemoryDevice HostFault → HostOutcome
+host_outcome_of = outcome_by host_fault_reply
+
+abbrev pub record_outcome_of : MemoryDevice → Result value.MemoryDevice RecordFault → HostOutcome
+record_outcome_of = outcome_by record_fault_reply

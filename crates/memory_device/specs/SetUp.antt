@@ -1,16 +1,16 @@
 -- Setting the device up from a given map: 3, 4, 6 to 11, then 13. Assumes nothing: these are definitions.
-use Rattle.std.specs.Prelude.{cond, ℕ, zero, suc, eqb}
+use Rattle.std.specs.Prelude.{cond, ℕ, zero, suc, eqb, Result}
 use Rattle.map_records.specs.Map.{managed, region}
-use Rattle.map_check.specs.Reply.{Reply, accepted, plain, if_accepted}
-use Rattle.map_check.specs.Check.{reply, judged}
+use Rattle.map_check.specs.Reply.{Reply, accepted, plain, reply_by, if_accepted}
+use Rattle.map_check.specs.Check.{fault_reply, judged}
 use Rattle.map_records.specs.Refusal as refusal
 use Rattle.map_records.specs.declared.map.RegionMap.{RegionMap}
 use Rattle.device_words.specs.Device.{MemoryDevice, no_plugs, no_pins, no_device, setup_ok}
-use Rattle.memory_device.specs.Record.{HostOutcome, record_of}
+use Rattle.memory_device.specs.Record.{HostOutcome, outcome_by}
 use Rattle.memory_device.specs.declared.setup.DeviceValues.{DeviceValues}
-use Rattle.memory_device.specs.declared.setup.SetUpAnswer.{SetUpAnswer}
-use Rattle.memory_device.specs.declared.setup.SetUpAnswer.TheVariants.{Checked, Values}
-use Rattle.memory_device.specs.declared.setup.SetUp.{SetUp}
+use Rattle.memory_device.specs.declared.device.MemoryDevice as value
+use Rattle.memory_device.specs.declared.setup.SetUpFault.{SetUpFault}
+use Rattle.memory_device.specs.declared.setup.SetUpFault.TheVariants as fault
 
 -- the size of the managed region among the first n, and 0 where there is none
 unfoldable pub managed_in : RegionMap → ℕ → ℕ
@@ -48,10 +48,14 @@ valued v region =
 unfoldable pub set_up : RegionMap → ℕ → DeviceValues → HostOutcome
 set_up m memory v = if_accepted (judged m memory) set_up_refusal (valued v (region_size m))
 
--- document 01's number for each answer
-abbrev pub set_up_reply : SetUpAnswer → Reply
-set_up_reply (Checked a) = reply a
-set_up_reply Values = plain refusal.SETUP
+-- document 01's number and nodes for each fault
+abbrev pub set_up_fault_reply : SetUpFault → Reply
+set_up_fault_reply (fault.Map e) = fault_reply e
+set_up_fault_reply fault.Values = plain refusal.SETUP
 
-abbrev pub set_up_outcome_of : SetUp → HostOutcome
-set_up_outcome_of s = record { reply = set_up_reply s.answer; device = record_of s.device }
+-- and for each answer
+abbrev pub set_up_reply : {A : Type 0} → Result A SetUpFault → Reply
+set_up_reply = reply_by set_up_fault_reply
+
+abbrev pub set_up_outcome_of : Result value.MemoryDevice SetUpFault → HostOutcome
+set_up_outcome_of = outcome_by set_up_fault_reply no_device

@@ -1,21 +1,20 @@
 // The device's record, and the words in which it lies.
 ghost use Rattle.std.specs.Prelude.{◌≡◌, length};
-ghost use Rattle.map_check.specs.Reply.{number_of};
 ghost use Rattle.device_words.specs.Device.{no_device, with_tables};
 ghost use Rattle.device_words.specs.Words.{device_at, device_of, device_words, device_length};
-ghost use Rattle.memory_device.specs.Record.{record_of, host_reply};
-ghost use Rattle.device_words.specs.Table.{table_length};
+ghost use Rattle.memory_device.specs.Record.{record_of, host_fault_reply};
+ghost use Rattle.memory_device.specs.declared.device.HostFault.TheVariants.{Record};
 
 use device_words::table::TABLE_WORDS;
 use device_words::words::{
     ADDR, BLOCK_SIZE, DEVICE_WORDS, PINNED, PLUGGED, REGION_SIZE, REQUESTED_SIZE, USABLE_SIZE,
 };
+use map_check::answer::{Fault, RecordFault};
 use map_records::map::GuestAddress;
-use map_records::refusal;
-use map_records::words::copy_words;
+use map_records::refusal::Refusal;
 
 // The memory device. Block b is plugged, or pinned, where bit b % 64 of word b / 64 is set.
-#[derive(Clone, Copy)]
+#[derive(Clone, Copy, Debug, PartialEq, Eq)]
 pub struct MemoryDevice {
     pub block_size: u64,
     pub addr: GuestAddress,
@@ -26,42 +25,32 @@ pub struct MemoryDevice {
     pub pinned: [u64; TABLE_WORDS],
 }
 
-// What a call of the host answers: done, or the refusal 14, 15 or 27 of document 01.
-#[derive(Clone, Copy)]
-pub enum HostAnswer {
-    Done,
+// What a call of the host refuses with: 14, 15 or 27 of document 01.
+#[derive(Clone, Copy, Debug, PartialEq, Eq)]
+pub enum HostFault {
     Size,
     Pin,
     Record,
 }
 
-// The answer, and the next state: the one given, where the call is refused.
-#[derive(Clone, Copy)]
-pub struct Changed {
-    pub answer: HostAnswer,
-    pub device: MemoryDevice,
-}
+impl Fault for HostFault {
+    ghost reply = { host_fault_reply };
 
-// Document 01's number of the refusal, and 0 where the call is done.
-pub fn number_of(answer: HostAnswer) -> u64
-    ensures { result ≡ number_of (host_reply answer) }
-{
-    match answer {
-        HostAnswer::Done => 0,
-        HostAnswer::Size => refusal::SIZE,
-        HostAnswer::Pin => refusal::PIN,
-        HostAnswer::Record => refusal::RECORD,
+    fn refusal(self) -> Refusal {
+        match self {
+            HostFault::Size => Refusal::Size,
+            HostFault::Pin => Refusal::Pin,
+            HostFault::Record => Refusal::Record,
+        }
     }
 }
 
-// The sixteen words of a table.
-fn table_of(words: &[u64]) -> [u64; TABLE_WORDS]
-    requires { length words.now ≡ table_length }
-    ensures { result ≡ words.now }
-{
-    let mut out = [0u64; TABLE_WORDS];
-    copy_words(&mut out, words);
-    out
+impl From<RecordFault> for HostFault {
+    ghost from_gives = { λ _ e. e ≡ Record };
+
+    fn from(_fault: RecordFault) -> HostFault {
+        HostFault::Record
+    }
 }
 
 // Both tables into a device's words.
@@ -69,44 +58,40 @@ fn put_tables(words: &mut [u64], plugged: [u64; TABLE_WORDS], pinned: [u64; TABL
     requires { length words.old ≡ device_length }
     ensures { words.new ≡ device_words (with_tables (device_at words.old) plugged pinned) }
 {
-    copy_words(&mut words[PLUGGED..PINNED], &plugged);
-    copy_words(&mut words[PINNED..DEVICE_WORDS], &pinned);
+    words[PLUGGED..PINNED].copy_from_slice(&plugged);
+    words[PINNED..DEVICE_WORDS].copy_from_slice(&pinned);
 }
 
-// The words of a record.
+// The words of a record. A `From` would be no plainer: at a call it would not say what the 37 numbers are.
 pub fn words_of(device: MemoryDevice) -> [u64; DEVICE_WORDS]
     ensures { (result ≡ device_words (record_of device)) × (device_of result ≡ record_of device) }
 {
-    let mut words = [0u64; DEVICE_WORDS];
-    let plugged = device.plugged;
-    let pinned = device.pinned;
+    let mut words = [0; DEVICE_WORDS];
     words[BLOCK_SIZE] = device.block_size;
     words[ADDR] = device.addr.0;
     words[REGION_SIZE] = device.region_size;
     words[USABLE_SIZE] = device.usable_size;
     words[REQUESTED_SIZE] = device.requested_size;
-    put_tables(&mut words, plugged, pinned);
+    put_tables(&mut words, device.plugged, device.pinned);
     words
 }
 
-// The record that words stand for: those of another number are a record of zeros.
+// The record that words stand for: those of another number are a record of zeros. No `TryFrom`, since each slice stands for one.
 pub fn device_of(words: &[u64]) -> MemoryDevice
     ensures { record_of result ≡ device_of words.now }
 {
-    if words.len() == DEVICE_WORDS {
-        let plugged = table_of(&words[PLUGGED..PINNED]);
-        let pinned = table_of(&words[PINNED..DEVICE_WORDS]);
-        return MemoryDevice {
-            block_size: words[BLOCK_SIZE],
-            addr: GuestAddress(words[ADDR]),
-            region_size: words[REGION_SIZE],
-            usable_size: words[USABLE_SIZE],
-            requested_size: words[REQUESTED_SIZE],
-            plugged: plugged,
-            pinned: pinned,
-        };
+    if words.len() != DEVICE_WORDS {
+        return no_device();
     }
-    no_device()
+    MemoryDevice {
+        block_size: words[BLOCK_SIZE],
+        addr: GuestAddress(words[ADDR]),
+        region_size: words[REGION_SIZE],
+        usable_size: words[USABLE_SIZE],
+        requested_size: words[REQUESTED_SIZE],
+        plugged: words[PLUGGED..PINNED].try_into().unwrap(),
+        pinned: words[PINNED..DEVICE_WORDS].try_into().unwrap(),
+    }
 }
 
 // The record of zeros, which 27 refuses.
@@ -119,7 +104,7 @@ pub fn no_device() -> MemoryDevice
         region_size: 0,
         usable_size: 0,
         requested_size: 0,
-        plugged: [0u64; TABLE_WORDS],
-        pinned: [0u64; TABLE_WORDS],
+        plugged: [0; TABLE_WORDS],
+        pinned: [0; TABLE_WORDS],
     }
 }

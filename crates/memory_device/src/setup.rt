@@ -2,20 +2,22 @@
 ghost use Rattle.std.specs.Prelude.{◌≡◌};
 ghost use Rattle.map_records.specs.Words.{map_of};
 ghost use Rattle.map_check.specs.Promises.{Counted};
-ghost use Rattle.memory_device.specs.SetUp.{region_size, set_up, set_up_reply, set_up_outcome_of};
-ghost use Rattle.map_check.specs.Reply.{number_of};
+ghost use Rattle.memory_device.specs.Record.{record_of};
+ghost use Rattle.memory_device.specs.SetUp.{region_size, fresh_device, set_up, set_up_fault_reply, set_up_outcome_of};
+ghost use Rattle.memory_device.specs.declared.setup.SetUpFault.TheVariants.{Map};
 
-use crate::device::{MemoryDevice, no_device};
+use crate::device::MemoryDevice;
 use device_words::rules::setup_ok;
 use device_words::table::TABLE_WORDS;
-use map_check::check;
-use map_check::check::{MapAnswer, accepts, check_map};
-use map_records::map::{GuestAddress, MANAGED};
-use map_records::refusal;
+use map_check::answer::Fault;
+use map_check::check::{MapFault, check_map};
+use map_records::kind::Kind;
+use map_records::map::GuestAddress;
+use map_records::refusal::Refusal;
 use map_records::words::{region_at, region_count};
 
 // What the host chooses. The region's size is the managed region's.
-#[derive(Clone, Copy)]
+#[derive(Clone, Copy, Debug, PartialEq, Eq)]
 pub struct DeviceValues {
     pub block_size: u64,
     pub addr: GuestAddress,
@@ -23,18 +25,47 @@ pub struct DeviceValues {
     pub requested_size: u64,
 }
 
-// What the map's check says, or that the values break SETUP's rules (13).
-#[derive(Clone, Copy)]
-pub enum SetUpAnswer {
-    Checked(MapAnswer),
+impl DeviceValues {
+    // The device of these values and a region, with nothing plugged or pinned.
+    fn fresh(self, region_size: u64) -> MemoryDevice
+        ensures { record_of result ≡ fresh_device self region_size }
+    {
+        MemoryDevice {
+            block_size: self.block_size,
+            addr: self.addr,
+            region_size,
+            usable_size: self.usable_size,
+            requested_size: self.requested_size,
+            plugged: [0; TABLE_WORDS],
+            pinned: [0; TABLE_WORDS],
+        }
+    }
+}
+
+// What the map's check refuses with, or that the values break SETUP's rules (13).
+#[derive(Clone, Copy, Debug, PartialEq, Eq)]
+pub enum SetUpFault {
+    Map(MapFault),
     Values,
 }
 
-// The answer, and the fresh device where it was set up: else a record of zeros.
-#[derive(Clone, Copy)]
-pub struct SetUp {
-    pub answer: SetUpAnswer,
-    pub device: MemoryDevice,
+impl Fault for SetUpFault {
+    ghost reply = { set_up_fault_reply };
+
+    fn refusal(self) -> Refusal {
+        match self {
+            SetUpFault::Map(fault) => fault.refusal(),
+            SetUpFault::Values => Refusal::SetUp,
+        }
+    }
+}
+
+impl From<MapFault> for SetUpFault {
+    ghost from_gives = { λ f e. e ≡ Map f };
+
+    fn from(fault: MapFault) -> SetUpFault {
+        SetUpFault::Map(fault)
+    }
 }
 
 // The size of the managed region, or 0.
@@ -42,62 +73,30 @@ fn managed_size(map: &[u64]) -> u64
     requires { Counted map.now }
     ensures { result ≡ region_size (map_of map.now) }
 {
-    let count = region_count(map);
-    let mut size: u64 = 0;
-    for n in 0..count {
-        let region = region_at(map, n);
-        if region.kind == MANAGED {
-            size = region.size;
-        }
-    }
-    size
+    (0..region_count(map))
+        .map(|n| region_at(map, n))
+        .rfind(|region| region.has_kind(Kind::Managed))
+        .map_or(0, |region| region.size)
 }
 
 // The fresh device of a map that is judged first.
-pub fn set_up(map: &[u64], memory_length: u64, values: DeviceValues) -> SetUp
+pub fn set_up(
+    map: &[u64],
+    memory_length: u64,
+    values: DeviceValues,
+) -> Result<MemoryDevice, SetUpFault>
     ensures { set_up_outcome_of result ≡ set_up (map_of map.now) memory_length values }
 {
-    let answer = check_map(map, memory_length);
-    if accepts(answer) {
-        let region = managed_size(map);
-        let addr = values.addr;
-        if setup_ok(
-            values.block_size,
-            addr,
-            region,
-            values.usable_size,
-            values.requested_size,
-        ) {
-            return SetUp {
-                answer: SetUpAnswer::Checked(answer),
-                device: MemoryDevice {
-                    block_size: values.block_size,
-                    addr: addr,
-                    region_size: region,
-                    usable_size: values.usable_size,
-                    requested_size: values.requested_size,
-                    plugged: [0u64; TABLE_WORDS],
-                    pinned: [0u64; TABLE_WORDS],
-                },
-            };
-        }
-        return SetUp {
-            answer: SetUpAnswer::Values,
-            device: no_device(),
-        };
+    check_map(map, memory_length)?;
+    let region_size = managed_size(map);
+    if !setup_ok(
+        values.block_size,
+        values.addr,
+        region_size,
+        values.usable_size,
+        values.requested_size,
+    ) {
+        return Err(SetUpFault::Values);
     }
-    SetUp {
-        answer: SetUpAnswer::Checked(answer),
-        device: no_device(),
-    }
-}
-
-// Document 01's number of the refusal, and 0 where the device was set up.
-pub fn number_of(answer: SetUpAnswer) -> u64
-    ensures { result ≡ number_of (set_up_reply answer) }
-{
-    match answer {
-        SetUpAnswer::Values => refusal::SETUP,
-        SetUpAnswer::Checked(map) => check::number_of(map),
-    }
+    Ok(values.fresh(region_size))
 }

@@ -1,9 +1,9 @@
 // What the host's calls ask of the words of a valid device, and what they change.
-ghost use Rattle.std.specs.Prelude.{◌≡◌, true, not, ◌<◌, max, length};
+ghost use Rattle.std.specs.Prelude.{◌≡◌, true, not, ◌<◌, length};
 ghost use Rattle.device_words.specs.Device.{fresh};
 ghost use Rattle.device_words.specs.Promises.{ValidWords};
 ghost use Rattle.device_words.specs.Words.{device_at, device_words, device_length};
-ghost use Rattle.memory_device.specs.Host.{size_fault, with_requested, pin_fault, configuration_of};
+ghost use Rattle.memory_device.specs.Host.{size_fault, with_requested, turn_fault, configuration_of};
 ghost use Rattle.device_words.specs.Bytes.{configuration_length};
 ghost use Rattle.device_words.specs.Table.{most_blocks};
 
@@ -17,18 +17,12 @@ use device_words::words::{
 };
 use map_records::map::GuestAddress;
 
-fn larger(a: u64, b: u64) -> u64
-    ensures { result ≡ max a b }
-{
-    if a < b { b } else { a }
-}
-
 // Is a requested size refused?
 pub fn size_fault(device: &[u64], size: u64) -> bool
     requires { ValidWords device.now }
     ensures { result ≡ size_fault (device_at device.now) size }
 {
-    (size % device[BLOCK_SIZE] != 0) | (device[REGION_SIZE] < size)
+    size % device[BLOCK_SIZE] != 0 || device[REGION_SIZE] < size
 }
 
 // Another requested size, and the usable size at least that.
@@ -36,8 +30,7 @@ pub fn set_requested(device: &mut [u64], size: u64)
     requires { length device.old ≡ device_length }
     ensures { device.new ≡ device_words (with_requested (device_at device.old) size) }
 {
-    let usable = larger(device[USABLE_SIZE], size);
-    device[USABLE_SIZE] = usable;
+    device[USABLE_SIZE] = device[USABLE_SIZE].max(size);
     device[REQUESTED_SIZE] = size;
 }
 
@@ -50,14 +43,15 @@ pub fn clear_tables(device: &mut [u64])
     clear(&mut device[PINNED..DEVICE_WORDS]);
 }
 
-// Is the block in the region, plugged and not pinned?
-pub fn can_pin(device: &[u64], b: BlockNumber) -> bool
+// May a block be pinned, or let go? It is in the region, plugged, and not so yet. A pinned one is both, so that no more is
+// asked of one that is let go.
+pub fn can_turn(device: &[u64], b: BlockNumber, on: bool) -> bool
     requires { ValidWords device.now }
-    ensures value { result ≡ not (pin_fault (device_at device.now) b.0) }
+    ensures value { result ≡ not (turn_fault (device_at device.now) b.0 on) }
     ensures room { result ≡ true → b.0 < most_blocks }
 {
     let blocks = blocks_in(device, device[REGION_SIZE]);
-    ((b.0 as usize) < blocks) & (is_plugged(device, b) & !is_pinned(device, b))
+    usize::from(b.0) < blocks && is_plugged(device, b) && is_pinned(device, b) != on
 }
 
 // The configuration's bytes.

@@ -3,36 +3,48 @@ use mathlib.Core.Path.{◌≡◌, refl, ap, ◌∙◌}
 use mathlib.Core.Bool.{cond}
 use lib.Dec.{eqb}
 use Rattle.map_check.specs.Reply.{Reply, accepted, nodes, place, plain}
-use Rattle.map_check.proofs.Answers.{injective, answer_of, reply_back, reply_form}
+use Rattle.map_check.proofs.Answers.{injective, answer_of, reply_back, fault_form}
 use Rattle.region_map.specs.Flatten.{flat_reply}
 use Rattle.region_map.specs.Resolve.{WalkAnswer, refused, leads, led_by}
-use Rattle.region_map.specs.declared.resolve.Resolution.{Resolution}
-use Rattle.region_map.specs.declared.resolve.Resolution.TheVariants.{Refused, Answered}
-use Rattle.region_map.specs.declared.view.FlatAnswer.{FlatAnswer}
-use Rattle.region_map.specs.declared.view.FlatAnswer.TheVariants.{Checked, TooMany, Record}
+use Rattle.std.specs.Prelude.{Option, None, Result, Ok, Err}
+use Rattle.map_records.specs.Refusal.{RUNS}
+use Rattle.map_records.specs.declared.map.Found.{Found}
+use Rattle.map_check.specs.declared.check.MapFault.{MapFault}
+use Rattle.region_map.specs.declared.view.FlatFault.{FlatFault}
+use Rattle.region_map.specs.declared.view.FlatFault.TheVariants as fault
 
-abbrev flat_answer_of : Reply → FlatAnswer
-flat_answer_of accepted = Checked (answer_of accepted)
-flat_answer_of (nodes k i j) = Checked (answer_of (nodes k i j))
-flat_answer_of (place k p) = Record
-flat_answer_of (plain k) = cond (eqb k 12) TooMany Record
+-- the map's fault of an answer of the check, which in a view's answer is one of three
+abbrev in_view : Result Unit MapFault → Result Unit FlatFault
+in_view (Ok _) = Ok tt
+in_view (Err f) = Err (fault.Map f)
 
-flat_back : (a : FlatAnswer) → flat_answer_of (flat_reply a) ≡ a
-flat_back (Checked a) = reply_form (λ r. flat_answer_of r ≡ Checked (answer_of r)) refl (λ k i j. refl) a ∙ ap Checked (reply_back a)
-flat_back TooMany = refl
-flat_back Record = refl
+abbrev flat_answer_of : Reply → Result Unit FlatFault
+flat_answer_of accepted = Ok tt
+flat_answer_of (nodes k i j) = in_view (answer_of (nodes k i j))
+flat_answer_of (place k p) = Err fault.Record
+flat_answer_of (plain k) = Err (cond (eqb k RUNS) fault.TooMany fault.Record)
 
-pub flat_reply_injective : (a b : FlatAnswer) → flat_reply a ≡ flat_reply b → a ≡ b
+flat_back : (a : Result Unit FlatFault) → flat_answer_of (flat_reply a) ≡ a
+flat_back (Ok _) = refl
+flat_back (Err (fault.Map f)) = fault_form (λ r. flat_answer_of r ≡ in_view (answer_of r)) (λ k i j. refl) f ∙ ap in_view (reply_back (Err f))
+flat_back (Err fault.TooMany) = refl
+flat_back (Err fault.Record) = refl
+
+pub flat_reply_injective : (a b : Result Unit FlatFault) → flat_reply a ≡ flat_reply b → a ≡ b
 flat_reply_injective = injective flat_reply flat_answer_of flat_back
 
-resolution_of : WalkAnswer → Resolution
-resolution_of (refused r) = Refused (answer_of r)
-resolution_of (leads x) = Answered x
+-- what is led to, or the map's fault
+abbrev refused_by : Result Unit MapFault → Result (Option Found) MapFault
+refused_by (Ok _) = Ok None
+refused_by (Err f) = Err f
 
-led_back : (a : Resolution) → resolution_of (led_by a) ≡ a
-unfolding resolution_of
-led_back (Refused a) = ap Refused (reply_back a)
-led_back (Answered x) = refl
+abbrev walk_answer_of : WalkAnswer → Result (Option Found) MapFault
+walk_answer_of (refused r) = refused_by (answer_of r)
+walk_answer_of (leads x) = Ok x
 
-pub walk_answer_injective : (a b : Resolution) → led_by a ≡ led_by b → a ≡ b
-walk_answer_injective = injective led_by resolution_of led_back
+led_back : (a : Result (Option Found) MapFault) → walk_answer_of (led_by a) ≡ a
+led_back (Ok x) = refl
+led_back (Err f) = ap refused_by (reply_back (Err f))
+
+pub walk_answer_injective : (a b : Result (Option Found) MapFault) → led_by a ≡ led_by b → a ≡ b
+walk_answer_injective = injective led_by walk_answer_of led_back

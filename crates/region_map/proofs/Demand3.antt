@@ -18,8 +18,8 @@ use Rattle.map_records.specs.View.{no_range, entries}
 use Rattle.region_map.specs.ViewRules.{LawfulRange, Lawful}
 use Rattle.map_records.specs.View.{range_of, last_offset}
 use Rattle.map_records.specs.declared.map.RegionMap.{RegionMap}
-use Rattle.map_records.specs.declared.map.RegionOffset.{RegionOffset}
-use Rattle.region_map.specs.declared.resolve.Resolved.TheVariants.{Nothing, At}
+use Rattle.std.specs.Prelude.{Some, None}
+use Rattle.map_records.specs.declared.map.Found.{Found}
 use Rattle.map_records.specs.declared.view.FlatRange.{FlatRange}
 use Rattle.region_map.specs.declared.flat.Backing.{Backing}
 use Rattle.map_check.proofs.Accepted.{accepted_sound}
@@ -31,7 +31,7 @@ use Rattle.region_map.proofs.UniqueLaws.{unique, sound, entry_at}
 use Rattle.region_map.proofs.ListLaws.{given_by}
 
 -- past the root the tree leads nowhere
-root_past : (m : RegionMap) (a : ℕ) → root_size m ≤ a → walk_root m a ≡ Nothing
+root_past : (m : RegionMap) (a : ℕ) → root_size m ≤ a → walk_root m a ≡ None
 unfolding walk_root_by
 root_past m a h = past m (m.count - 1) a h
 
@@ -95,7 +95,7 @@ module _ (backing : ℕ → Backing) where
   -- it gives its addresses
   pub given_at : (l : List FlatRange) (k a : ℕ) → Longest backing l → k < length l → (get_or l k no_range).first.0 ≤ a → a ≤ (get_or l k no_range).last.0
       → lookup l a ≡ range_answer (get_or l k no_range) a
-  given_at l k a c h p q = given_by Nothing range_answer l k a h p q (λ j i. omega (arith, above_at l j k c i h))
+  given_at l k a c h p q = given_by None range_answer l k a h p q (λ j i. omega (arith, above_at l j k c i h))
 
 module _ (m : RegionMap) (memory : ℕ) (ok : Accepted m memory) where
   -- a range of the map's list
@@ -107,14 +107,14 @@ module _ (m : RegionMap) (memory : ℕ) (ok : Accepted m memory) where
       let order = e.order in
       let led : walk_root m r.last.0 ≡ range_answer r r.last.0 =
       sym (list_gives_lem m r.last.0) ∙ given_at (backing_of m) (flat_list m) k r.last.0 (list_longest m) h order (omega arith) in
-      let leaf : LeafOf m r.region (last_offset r) = root_leaf m memory ok r.last.0 r.region (record { 0 = last_offset r }) led in
+      let leaf : LeafOf m r.region (last_offset r) = root_leaf m memory ok r.last.0 (record { region = r.region; offset = record { 0 = last_offset r } }) led in
       let s = accepted_sound m memory ok in
       let below = leaf.below in
       let within = leaf.inside in
       let count = s.count in
       let some = s.some in
       let size = (s.bounded r.region below).size in
-      let top : r.last.0 < root_size m = in_root r.last.0 r.region (record { 0 = last_offset r }) led in
+      let top : r.last.0 < root_size m = in_root r.last.0 (record { region = r.region; offset = record { 0 = last_offset r } }) led in
       let root = (s.bounded (m.count - 1) (omega arith)).size in
       record {
         kind = λ q. ap has_memory e.kind ∙ leaf.kinds (λ z. q (e.kind ∙ z));
@@ -130,12 +130,12 @@ module _ (m : RegionMap) (memory : ℕ) (ok : Accepted m memory) where
         inside = within;
       }
     where
-      in_root : (a n : ℕ) (o : RegionOffset) → walk_root m a ≡ At n o → a < root_size m
-      in_root a n o e = go (dec_lt a (root_size m))
+      in_root : (a : ℕ) (x : Found) → walk_root m a ≡ Some x → a < root_size m
+      in_root a x e = go (dec_lt a (root_size m))
         where
           go : Dec (a < root_size m) → a < root_size m
           go (yes h) = h
-          go (no h) = absurd (let z : Nothing ≡ At n o = sym (root_past m a (omega arith)) ∙ e in let y : ◌≡◌ {A = ℕ} 0 1 = cc in omega arith)
+          go (no h) = absurd (let z : None ≡ Some x = sym (root_past m a (omega arith)) ∙ e in let y : ◌≡◌ {A = ℕ} 0 1 = cc in omega arith)
 
   range_eq : (k : ℕ) → k < length (flat_list m) → range_of (view_holding (flat_list m)) k ≡ get_or (flat_list m) k no_range
   unfolding view_holding

@@ -17,7 +17,8 @@ use Rattle.region_map.specs.DeviceWindows.{old_priority, lowered_field, lowered,
 use Rattle.map_records.specs.declared.map.Region.{Region}
 use Rattle.map_records.specs.declared.map.RegionMap.{RegionMap}
 use Rattle.map_records.specs.declared.map.Field.TheVariants.{Priority}
-use Rattle.region_map.specs.declared.resolve.Resolved.{Resolved}
+use Rattle.std.specs.Prelude.{Option}
+use Rattle.map_records.specs.declared.map.Found.{Found}
 
 -- Two maps, m and l, that differ in nothing but priority fields, each with a meaning of these, p and q, by which the priorities are equal.
 module _ (p q : Region → ℕ) (m : RegionMap) (regions : List Region) (field : ℕ → ℕ)
@@ -26,7 +27,7 @@ module _ (p q : Region → ℕ) (m : RegionMap) (regions : List Region) (field :
   l = record { count = m.count; regions = regions }
 
   -- The walk: at region n by the priorities of the regions below n.
-  module _ (u : ℕ → ℕ → Resolved) (n : ℕ) (equal : (c : ℕ) → c < n → q (region l c) ≡ p (region m c)) (a : ℕ) where
+  module _ (u : ℕ → ℕ → Option Found) (n : ℕ) (equal : (c : ℕ) → c < n → q (region l c) ≡ p (region m c)) (a : ℕ) where
     same_answer : (r : ℕ) → rank_answer q l u n r a ≡ rank_answer p m u n r a
     unfolding rank_answer ranked rank child asked holds
     same_answer r = go (ltb (r % 32) n) refl
@@ -55,7 +56,7 @@ module _ (p q : Region → ℕ) (m : RegionMap) (regions : List Region) (field :
 
   same_walk : (n : ℕ) → ((c : ℕ) → c < n → q (region l c) ≡ p (region m c)) → (a : ℕ) → walk_by q l n a ≡ walk_by p m n a
   unfolding walk_by
-  same_walk n equal a = ap (λ (u : ℕ → ℕ → Resolved). walk_at q l u n a) (same_below n equal) ∙ same_visit (walk_below p m n) n equal a
+  same_walk n equal a = ap (λ (u : ℕ → ℕ → Option Found). walk_at q l u n a) (same_below n equal) ∙ same_visit (walk_below p m n) n equal a
 
   -- The check: by the priorities of all regions, and with priority fields of which 6 says the same.
   module _ (equal : (c : ℕ) → c < m.count → q (region l c) ≡ p (region m c)) (bounds : (c : ℕ) → ltb 255 (field c) ≡ ltb 255 (region m c).priority) (memory : ℕ) where

@@ -7,8 +7,8 @@ use native.Mathlib.Nat.{add-zero, add-suc, not-suc-le-zero}
 use native.Mathlib.Decide.{ℕ_discrete, dec_lt}
 use native.Mathlib.Omega.{arith}
 use lib.ListN.{length}
-use Rattle.region_map.specs.declared.resolve.Resolved.{Resolved}
-use Rattle.region_map.specs.declared.resolve.Resolved.TheVariants.{Nothing, At}
+use Rattle.std.specs.Prelude.{Option, Some, None}
+use Rattle.map_records.specs.declared.map.Found.{Found}
 use Rattle.region_map.specs.declared.flat.Backing.{Backing}
 use Rattle.map_records.specs.declared.view.FlatRange.{FlatRange}
 use Rattle.region_map.specs.FlatList.{range_for, joins, push_after, push, extend, flat, inside, list_gives, range_answer, lookup}
@@ -21,39 +21,39 @@ module _ (backing : ℕ → Backing) where
   sound_at : (n m k o : ℕ) → n ≤ m → ValuedEntry backing (range_for backing n m k o)
   sound_at n m k o h = record { order = h; kind = refl; base = refl }
 
-  longest_extend : (l : List FlatRange) (n : ℕ) (b : Resolved) → Longest backing l → Under l n → Longest backing (extend backing l n n b)
+  longest_extend : (l : List FlatRange) (n : ℕ) (b : Option Found) → Longest backing l → Under l n → Longest backing (extend backing l n n b)
   unfolding extend
-  longest_extend l n Nothing c u = c
-  longest_extend l n (At k o) c u = longest_push backing (range_for backing n n k o.0) (sound_at n n k o.0 (omega arith)) l c u
+  longest_extend l n None c u = c
+  longest_extend l n (Some x) c u = longest_push backing (range_for backing n n x.region x.offset.0) (sound_at n n x.region x.offset.0 (omega arith)) l c u
 
-  under_extend : (l : List FlatRange) (n : ℕ) (b : Resolved) → Under l n → Under (extend backing l n n b) (suc n)
+  under_extend : (l : List FlatRange) (n : ℕ) (b : Option Found) → Under l n → Under (extend backing l n n b) (suc n)
   unfolding extend
-  under_extend l n Nothing u = under_more l n (suc n) (omega arith) u
-  under_extend l n (At k o) u = under_push l (range_for backing n n k o.0) (suc n) (under_more l n (suc n) (omega arith) u) (omega arith)
+  under_extend l n None u = under_more l n (suc n) (omega arith) u
+  under_extend l n (Some x) u = under_push l (range_for backing n n x.region x.offset.0) (suc n) (under_more l n (suc n) (omega arith) u) (omega arith)
 
-  extend_here : (l : List FlatRange) (n : ℕ) (b : Resolved) → Longest backing l → Under l n → lookup l n ≡ Nothing → lookup (extend backing l n n b) n ≡ b
+  extend_here : (l : List FlatRange) (n : ℕ) (b : Option Found) → Longest backing l → Under l n → lookup l n ≡ None → lookup (extend backing l n n b) n ≡ b
   unfolding extend
-  extend_here l n Nothing c u h = h
-  extend_here l n (At k o) c u h =
-      let r = range_for backing n n k o.0 in
-      let e : o.0 + (n - n) ≡ o.0 = omega arith in
-      lookup_push backing r (sound_at n n k o.0 (omega arith)) l n c u
+  extend_here l n None c u h = h
+  extend_here l n (Some x) c u h =
+      let r = range_for backing n n x.region x.offset.0 in
+      let e : x.offset.0 + (n - n) ≡ x.offset.0 = omega arith in
+      lookup_push backing r (sound_at n n x.region x.offset.0 (omega arith)) l n c u
       ∙ rw (inside_on r n (omega arith) (omega arith), e)
 
-  extend_other : (l : List FlatRange) (n : ℕ) (b : Resolved) (a : ℕ) → Longest backing l → Under l n → (a ≡ n → ⊥)
+  extend_other : (l : List FlatRange) (n : ℕ) (b : Option Found) (a : ℕ) → Longest backing l → Under l n → (a ≡ n → ⊥)
       → lookup (extend backing l n n b) a ≡ lookup l a
   unfolding extend
-  extend_other l n Nothing a c u h = refl
-  extend_other l n (At k o) a c u h = lookup_push backing r (sound_at n n k o.0 (omega arith)) l a c u ∙ go (dec_lt a n)
+  extend_other l n None a c u h = refl
+  extend_other l n (Some x) a c u h = lookup_push backing r (sound_at n n x.region x.offset.0 (omega arith)) l a c u ∙ go (dec_lt a n)
     where
       r : FlatRange
-      r = range_for backing n n k o.0
+      r = range_for backing n n x.region x.offset.0
 
       go : Dec (a < n) → cond (inside r a) (range_answer r a) (lookup l a) ≡ lookup l a
       go (yes q) = rw (inside_before r a q)
       go (no q) = rw (inside_beyond r a (omega arith))
 
-module _ (backing : ℕ → Backing) (f : ℕ → Resolved) where
+module _ (backing : ℕ → Backing) (f : ℕ → Option Found) where
   pub flat_under : (n : ℕ) → Under (flat backing f n) n
   unfolding flat
   flat_under zero = tt
@@ -66,7 +66,7 @@ module _ (backing : ℕ → Backing) (f : ℕ → Resolved) where
   flat_longest (suc n) = longest_extend backing (flat backing f n) n (f n) (flat_longest n) (flat_under n)
 
   -- it gives f's answers below n, and nothing beyond
-  pub flat_beyond : (n a : ℕ) → n ≤ a → lookup (flat backing f n) a ≡ Nothing
+  pub flat_beyond : (n a : ℕ) → n ≤ a → lookup (flat backing f n) a ≡ None
   unfolding flat list_gives
   flat_beyond zero a h = refl
   flat_beyond (suc n) a h =
@@ -83,15 +83,15 @@ module _ (backing : ℕ → Backing) (f : ℕ → Resolved) where
       go (no q) ih = extend_other backing (flat backing f n) n (f n) a (flat_longest n) (flat_under n) q ∙ ih (omega arith)
 
 -- d + 1 addresses from `at` that answer as one run are one entry put behind the list
-extend_more : (backing : ℕ → Backing) (l : List FlatRange) (at d : ℕ) (b : Resolved)
+extend_more : (backing : ℕ → Backing) (l : List FlatRange) (at d : ℕ) (b : Option Found)
     → extend backing (extend backing l at (at + d) b) (suc (at + d)) (suc (at + d)) (shift (suc d) b) ≡ extend backing l at (suc (at + d)) b
 unfolding extend
-extend_more backing l at d Nothing = refl
-extend_more backing l at d (At k o) =
-    push_push l (range_for backing at (at + d) k o.0) (range_for backing (suc (at + d)) (suc (at + d)) k (o.0 + suc d))
+extend_more backing l at d None = refl
+extend_more backing l at d (Some x) =
+    push_push l (range_for backing at (at + d) x.region x.offset.0) (range_for backing (suc (at + d)) (suc (at + d)) x.region (x.offset.0 + suc d))
     (record { next = omega arith; region = refl; offset = omega arith })
 
-module _ (backing : ℕ → Backing) (f : ℕ → Resolved) (at : ℕ) where
+module _ (backing : ℕ → Backing) (f : ℕ → Option Found) (at : ℕ) where
   stretch : (d : ℕ) → ((i : ℕ) → i ≤ d → f (at + i) ≡ shift i (f at)) → flat backing f (suc (at + d)) ≡ extend backing (flat backing f at) at (at + d) (f at)
   unfolding flat
   stretch zero h = rw (add-zero at)
@@ -121,12 +121,12 @@ unfolding push
 push_grows [] r = omega arith
 push_grows (x ∷ xs) r = after_grows x xs r
 
-extend_grows : (backing : ℕ → Backing) (l : List FlatRange) (n m : ℕ) (b : Resolved) → length l ≤ length (extend backing l n m b)
+extend_grows : (backing : ℕ → Backing) (l : List FlatRange) (n m : ℕ) (b : Option Found) → length l ≤ length (extend backing l n m b)
 unfolding extend
-extend_grows backing l n m Nothing = omega arith
-extend_grows backing l n m (At k o) = push_grows l (range_for backing n m k o.0)
+extend_grows backing l n m None = omega arith
+extend_grows backing l n m (Some x) = push_grows l (range_for backing n m x.region x.offset.0)
 
-flat_more : (backing : ℕ → Backing) (f : ℕ → Resolved) (n d : ℕ) → length (flat backing f n) ≤ length (flat backing f (n + d))
+flat_more : (backing : ℕ → Backing) (f : ℕ → Option Found) (n d : ℕ) → length (flat backing f n) ≤ length (flat backing f (n + d))
 unfolding flat
 flat_more backing f n zero = rw (add-zero n) (omega arith)
 flat_more backing f n (suc d) =
@@ -134,5 +134,5 @@ flat_more backing f n (suc d) =
     let k = extend_grows backing (flat backing f (n + d)) (n + d) (n + d) (f (n + d)) in
     rw (add-suc n d) (omega arith)
 
-pub flat_grows : (backing : ℕ → Backing) (f : ℕ → Resolved) (n m : ℕ) → n ≤ m → length (flat backing f n) ≤ length (flat backing f m)
+pub flat_grows : (backing : ℕ → Backing) (f : ℕ → Option Found) (n m : ℕ) → n ≤ m → length (flat backing f n) ≤ length (flat backing f m)
 flat_grows backing f n m h = let e : n + (m - n) ≡ m = omega arith in rw e at (flat_more backing f n (m - n))

@@ -1,6 +1,7 @@
 pub mod Answers
 pub mod Demand3
 pub mod DeviceWindows
+mod EmitLaws
 mod FillLaws
 pub mod FlatLaws
 pub mod LeafLaws

@@ -1,160 +1,53 @@
--- Laws of the table of pieces: an empty one, a piece's words, the move, and a piece put between its neighbours. Assumes nothing.
+-- Laws of the table of pieces: an empty one, and a piece put between its neighbours. Assumes nothing.
 use mathlib.Core.Path.{◌≡◌, refl, sym, ap, subst, ◌∙◌}
 use mathlib.Core.List.{List}
 use mathlib.Core.Logic.{◌⊎◌, inl, inr, ⊎_elim}
-use Prim.Native.Nat.{ℕ, zero, suc, ◌+◌, ◌-◌, ◌*◌, ◌^◌, ◌≤◌, ◌<◌}
+use Prim.Native.Nat.{ℕ, zero, suc, ◌+◌, ◌-◌, ◌^◌, ◌≤◌, ◌<◌}
 use native.Mathlib.Nat.{add-zero, add-suc, eq-zero-or-pos}
 use native.Mathlib.Numerals.{add-one}
 use native.Mathlib.Omega.{arith}
-use lib.ListN.{length, get_or, set, length-set}
-use lib.Seq.{get_or-set_same, get_or-set_other, sets, length-sets}
-use Rattle.map_records.proofs.StoreLaws.{sets_below, sets_above, sets_within}
-use Rattle.region_map.specs.declared.resolve.Resolved.{Resolved}
-use Rattle.region_map.specs.declared.resolve.Resolved.TheVariants.{Nothing, At}
+use lib.ListN.{length, get_or, set, length-set, take, drop}
+use lib.Seq.{get_or-set_same, get_or-set_other}
+use borrow.Rule.Slice.PartMut.{mid_of, post_of, put_mid, same_len_mid}
+use Rattle.std.specs.List.{RotatedRight}
+use Rattle.std.proofs.Common.{◌++◌}
+use Rattle.std.proofs.lemmas.List.{get_or_append_left, get_or-append_right, get_or-take, get_or-drop, length-take-le, length-drop}
+use Rattle.std.specs.Prelude.{Option, Some, None}
+use Rattle.map_records.specs.declared.map.Found.{Found}
+use Rattle.map_records.specs.declared.map.GuestAddress.{GuestAddress}
 use Rattle.region_map.specs.declared.pieces.Piece.{Piece}
+use Rattle.region_map.specs.declared.pieces.PieceTable.{PieceTable}
 use Rattle.region_map.specs.Walk.{or_else}
-use Rattle.region_map.specs.Pieces.{count_of, horizon_of, start_of, piece_first, piece_end, piece_region, piece_offset, in_span, itself, piece_gives, given, shown, PieceIs, BegunTable, Pieces, Behind, PieceSpot, piece_words, Moved, Fits, piece_table_length}
+use Rattle.region_map.specs.Pieces.{no_piece, piece, piece_first, piece_end, piece_region, piece_offset, in_span, itself, piece_shows, piece_gives, given, shown, BegunTable, Pieces, Behind, PieceSpot, Fits}
 use Rattle.region_map.proofs.SpanLaws.{span_before, span_past, or_nothing}
 
 side : (e n : ℕ) → (e < n) ⊎ (n ≤ e)
 side e n = ⊎_elim (λ z. inr (omega arith)) (λ p. inl (omega arith)) (eq-zero-or-pos (n - e))
 
--- Words.
-
-pub word_at : (w : List ℕ) (j k : ℕ) → j ≡ k → get_or w j 0 ≡ get_or w k 0
-word_at w j k e = ap (λ (x : ℕ). get_or w x 0) e
-
 -- An empty table.
 
-module _ (w : List ℕ) (s e : ℕ) (size : length w ≡ piece_table_length) where
-  count_begun : count_of (set (set (set w 0 0) 1 e) 2 s) ≡ 0
-  count_begun =
-      get_or-set_other (set (set w 0 0) 1 e) 2 0 s 0 (λ h. omega arith) ∙ get_or-set_other (set w 0 0) 1 0 e 0 (λ h. omega arith)
-      ∙ get_or-set_same w 0 0 0 (omega arith)
-
-  horizon_begun : horizon_of (set (set (set w 0 0) 1 e) 2 s) ≡ e
-  horizon_begun =
-      get_or-set_other (set (set w 0 0) 1 e) 2 1 s 0 (λ h. omega arith)
-      ∙ get_or-set_same (set w 0 0) 1 e 0 (omega (arith, length-set w 0 0))
-
-  start_begun : start_of (set (set (set w 0 0) 1 e) 2 s) ≡ s
-  start_begun =
-      get_or-set_same (set (set w 0 0) 1 e) 2 s 0 (omega (arith, length-set w 0 0, length-set (set w 0 0) 1 e))
-
-  size_begun : length (set (set (set w 0 0) 1 e) 2 s) ≡ piece_table_length
-  size_begun = simp length-set size
-
-empty : (v : List ℕ) (s e : ℕ) → length v ≡ piece_table_length → count_of v ≡ 0 → horizon_of v ≡ e → start_of v ≡ s → s < e → e ≤ 2 ^ 48 → Pieces v
-empty v s e size count horizon start ahead far = record {
-  size = size;
-  few = omega arith;
-  ahead = omega arith;
-  far = omega arith;
-  from = λ i h. absurd (omega arith);
-  near = λ i h. absurd (omega arith);
-  order = λ i h. absurd (omega arith);
-  apart = λ i j l h. absurd (omega arith);
-  ends = λ i h. absurd (omega arith);
-  regions = λ i h. absurd (omega arith);
-}
-
-pub begin_empty : (w : List ℕ) (s e : ℕ) → length w ≡ piece_table_length → s < e → e ≤ 2 ^ 48 → BegunTable s e (set (set (set w 0 0) 1 e) 2 s)
+pub begin_empty : (w : PieceTable) (s e : GuestAddress) → length w.pieces ≡ 256 → s.0 < e.0 → e.0 ≤ 2 ^ 48 → BegunTable s.0 e.0 (record { count = 0; horizon = e; start = s; pieces = w.pieces })
 begin_empty w s e size ahead far = record {
-  kept = empty (set (set (set w 0 0) 1 e) 2 s) s e (size_begun w s e size) (count_begun w s e size) (horizon_begun w s e size) (start_begun w s e size) ahead far;
-  none = count_begun w s e size;
-  first = start_begun w s e size;
-  horizon = horizon_begun w s e size;
+  kept = record {
+    size = size;
+    few = omega arith;
+    ahead = ahead;
+    far = far;
+    from = λ i h. absurd (omega arith);
+    near = λ i h. absurd (omega arith);
+    order = λ i h. absurd (omega arith);
+    apart = λ i j l h. absurd (omega arith);
+    ends = λ i h. absurd (omega arith);
+    regions = λ i h. absurd (omega arith);
+  };
+  none = refl;
+  first = refl;
+  horizon = refl;
 }
-
--- The move.
-
--- the words from k up to `top` stand four further on, those below k + 4 as they were
-pub record Moving (w : List ℕ) (k top : ℕ) (v : List ℕ) : Type 0 where
-  pub size : length v ≡ length w
-  pub low : (j : ℕ) → j < k + 4 → get_or v j 0 ≡ get_or w j 0
-  pub up : (j : ℕ) → k ≤ j → j < top → get_or v (j + 4) 0 ≡ get_or w j 0
-
-pub move_start : (w : List ℕ) (top : ℕ) → Moving w top top w
-move_start w top = record { size = refl; low = λ j h. refl; up = λ j l h. absurd (omega arith) }
-
--- a piece moved up by one
-module _ (w v : List ℕ) (k top : ℕ) (p : Piece) (same : PieceIs v k p) where
-  word_of : (d : ℕ) → d < 4 → get_or (piece_words p) d 0 ≡ get_or v (3 + 4 * k + d) 0
-  word_of zero h = let e : 3 + 4 * k ≡ 3 + 4 * k + 0 = omega arith in same.first ∙ ap (λ (x : ℕ). get_or v x 0) e
-  word_of (suc zero) h = same.end
-  word_of (suc (suc zero)) h = same.region
-  word_of (suc (suc (suc zero))) h = same.offset
-  word_of (suc (suc (suc (suc d)))) h = absurd (omega arith)
-
-  pub move_piece : 3 + 4 * (k + 1) + 4 ≤ length w → Moving w (3 + 4 * (k + 1)) top v → Moving w (3 + 4 * k) top (sets v (3 + 4 * (k + 1)) (piece_words p))
-  move_piece room m = record {
-    size = length-sets v (3 + 4 * (k + 1)) (piece_words p) ∙ m.size;
-    low = λ j h. sets_below v (3 + 4 * (k + 1)) (piece_words p) j (omega arith) ∙ m.low j (omega arith);
-    up = λ j l h. ⊎_elim
-        (λ below.
-        let e : j + 4 ≡ 3 + 4 * (k + 1) + (j - (3 + 4 * k)) = omega arith in
-        let f : 3 + 4 * k + (j - (3 + 4 * k)) ≡ j = omega arith in
-        ap (λ (x : ℕ). get_or (sets v (3 + 4 * (k + 1)) (piece_words p)) x 0) e
-        ∙ sets_within v (3 + 4 * (k + 1)) (piece_words p) (j - (3 + 4 * k)) (omega arith) (omega (arith, m.size))
-        ∙ word_of (j - (3 + 4 * k)) (omega arith) ∙ ap (λ (x : ℕ). get_or v x 0) f ∙ m.low j (omega arith))
-        (λ above. sets_above v (3 + 4 * (k + 1)) (piece_words p) (j + 4) (omega arith) ∙ m.up j above h)
-        (side j (3 + 4 * (k + 1)));
-  }
-
-pub move_end : (w v : List ℕ) (k i n : ℕ) → k ≤ 3 + 4 * i → Moving w k (3 + 4 * n) v → 3 + 4 * i ≤ k → Moved w i n v
-move_end w v k i n l m g = record { size = m.size; low = λ j h. m.low j (omega arith); up = λ j h t. m.up j (omega arith) t }
-
--- The words of a piece that is put.
-
-module _ (v : List ℕ) (k : ℕ) (p : Piece) where
-  put_other : (x : ℕ) → (x < k) ⊎ (k + 4 ≤ x) → get_or (sets v k (piece_words p)) x 0 ≡ get_or v x 0
-  put_other x away =
-      let v1 : List ℕ = set v k p.first.0 in
-      let v2 : List ℕ = set v1 (suc k) p.end.0 in
-      let v3 : List ℕ = set v2 (suc (suc k)) p.region in
-      get_or-set_other v3 (suc (suc (suc k))) x p.offset.0 0 (λ e. ⊎_elim (λ l. omega arith) (λ l. omega arith) away)
-      ∙ get_or-set_other v2 (suc (suc k)) x p.region 0 (λ e. ⊎_elim (λ l. omega arith) (λ l. omega arith) away)
-      ∙ get_or-set_other v1 (suc k) x p.end.0 0 (λ e. ⊎_elim (λ l. omega arith) (λ l. omega arith) away)
-      ∙ get_or-set_other v k x p.first.0 0 (λ e. ⊎_elim (λ l. omega arith) (λ l. omega arith) away)
-
-  module _ (fits : k + 3 < length v) where
-    put_first : get_or (sets v k (piece_words p)) k 0 ≡ p.first.0
-    put_first =
-        let v1 : List ℕ = set v k p.first.0 in
-        let v2 : List ℕ = set v1 (suc k) p.end.0 in
-        let v3 : List ℕ = set v2 (suc (suc k)) p.region in
-        get_or-set_other v3 (suc (suc (suc k))) k p.offset.0 0 (λ e. omega arith)
-        ∙ get_or-set_other v2 (suc (suc k)) k p.region 0 (λ e. omega arith)
-        ∙ get_or-set_other v1 (suc k) k p.end.0 0 (λ e. omega arith)
-        ∙ get_or-set_same v k p.first.0 0 (omega arith)
-
-    put_end : get_or (sets v k (piece_words p)) (suc k) 0 ≡ p.end.0
-    put_end =
-        let v1 : List ℕ = set v k p.first.0 in
-        let v2 : List ℕ = set v1 (suc k) p.end.0 in
-        let v3 : List ℕ = set v2 (suc (suc k)) p.region in
-        get_or-set_other v3 (suc (suc (suc k))) (suc k) p.offset.0 0 (λ e. omega arith)
-        ∙ get_or-set_other v2 (suc (suc k)) (suc k) p.region 0 (λ e. omega arith)
-        ∙ get_or-set_same v1 (suc k) p.end.0 0 (omega (arith, length-set v k p.first.0))
-
-    put_region : get_or (sets v k (piece_words p)) (suc (suc k)) 0 ≡ p.region
-    put_region =
-        let v1 : List ℕ = set v k p.first.0 in
-        let v2 : List ℕ = set v1 (suc k) p.end.0 in
-        let v3 : List ℕ = set v2 (suc (suc k)) p.region in
-        get_or-set_other v3 (suc (suc (suc k))) (suc (suc k)) p.offset.0 0 (λ e. omega arith)
-        ∙ get_or-set_same v2 (suc (suc k)) p.region 0 (omega (arith, length-set v k p.first.0, length-set v1 (suc k) p.end.0))
-
-    put_offset : get_or (sets v k (piece_words p)) (suc (suc (suc k))) 0 ≡ p.offset.0
-    put_offset =
-        let v1 : List ℕ = set v k p.first.0 in
-        let v2 : List ℕ = set v1 (suc k) p.end.0 in
-        let v3 : List ℕ = set v2 (suc (suc k)) p.region in
-        get_or-set_same v3 (suc (suc (suc k))) p.offset.0 0 (omega (arith, length-set v k p.first.0, length-set v1 (suc k) p.end.0, length-set v2 (suc (suc k)) p.region))
 
 -- What pieces give.
 
-pub record Same (v : List ℕ) (j : ℕ) (w : List ℕ) (k : ℕ) : Type 0 where
+pub record Same (v : PieceTable) (j : ℕ) (w : PieceTable) (k : ℕ) : Type 0 where
   pub first : piece_first v j ≡ piece_first w k
   pub end : piece_end v j ≡ piece_end w k
   pub region : piece_region v j ≡ piece_region w k
@@ -163,24 +56,24 @@ pub record Same (v : List ℕ) (j : ℕ) (w : List ℕ) (k : ℕ) : Type 0 where
 span_eq : {r r' f f' o o' e e' : ℕ} (a : ℕ) → r ≡ r' → f ≡ f' → o ≡ o' → e ≡ e' → in_span (itself r) f o e a ≡ in_span (itself r') f' o' e' a
 span_eq a p q s t = λ i. in_span (itself (p i)) (q i) (s i) (t i) a
 
-same_gives : {v w : List ℕ} {j k : ℕ} (a : ℕ) → Same v j w k → piece_gives v j a ≡ piece_gives w k a
+same_gives : {v w : PieceTable} {j k : ℕ} (a : ℕ) → Same v j w k → piece_gives v j a ≡ piece_gives w k a
 same_gives a s = span_eq a s.region s.first s.offset s.end
 
 -- two answers of which one is nothing may change places
-swap : (g x p : Resolved) → (x ≡ Nothing) ⊎ (p ≡ Nothing) → or_else (or_else g p) x ≡ or_else (or_else g x) p
-swap (At n o) x p e = refl
-swap Nothing x p (inl e) = rw (e, or_nothing)
-swap Nothing x p (inr e) = rw (e, or_nothing)
+swap : (g x p : Option Found) → (x ≡ None) ⊎ (p ≡ None) → or_else (or_else g p) x ≡ or_else (or_else g x) p
+swap (Some v) x p e = refl
+swap None x p (inl e) = rw (e, or_nothing)
+swap None x p (inr e) = rw (e, or_nothing)
 
-given_same : (v w : List ℕ) (a k : ℕ) → ((j : ℕ) → j < k → piece_gives v j a ≡ piece_gives w j a) → given v k a ≡ given w k a
+given_same : (v w : PieceTable) (a k : ℕ) → ((j : ℕ) → j < k → piece_gives v j a ≡ piece_gives w j a) → given v k a ≡ given w k a
 unfolding given
 given_same v w a zero h = refl
 given_same v w a (suc k) h = λ i. or_else (given_same v w a k (λ j l. h j (omega arith)) i) (h k (omega arith) i)
 
 -- a piece put in before others that lie apart from it comes to the same as one put behind them
-given_past : (v w : List ℕ) (i a : ℕ) (x : Resolved) → given v i a ≡ given w i a → piece_gives v i a ≡ x → (k : ℕ)
+given_past : (v w : PieceTable) (i a : ℕ) (x : Option Found) → given v i a ≡ given w i a → piece_gives v i a ≡ x → (k : ℕ)
     → ((j : ℕ) → i ≤ j → j < i + k → piece_gives v (suc j) a ≡ piece_gives w j a)
-    → ((j : ℕ) → i ≤ j → j < i + k → (piece_gives w j a ≡ Nothing) ⊎ (x ≡ Nothing))
+    → ((j : ℕ) → i ≤ j → j < i + k → (piece_gives w j a ≡ None) ⊎ (x ≡ None))
     → given v (suc (i + k)) a ≡ or_else (given w (i + k) a) x
 unfolding given
 given_past v w i a x g e zero up apart = rw add-zero (λ t. or_else (g t) (e t))
@@ -191,20 +84,11 @@ given_past v w i a x g e (suc k) up apart =
 
 -- A piece put in at place i before m - i others, under a horizon h.
 
--- the table u has room at place i
-pub record Ready (w : List ℕ) (i m h : ℕ) (u : List ℕ) : Type 0 where
-  pub size : length u ≡ piece_table_length
-  pub count : count_of u ≡ m + 1
-  pub horizon : horizon_of u ≡ h
-  pub start : start_of u ≡ start_of w
-  pub low : (k : ℕ) → 3 ≤ k → k < 3 + 4 * i → get_or u k 0 ≡ get_or w k 0
-  pub up : (k : ℕ) → 3 + 4 * i ≤ k → k < 3 + 4 * m → get_or u (k + 4) 0 ≡ get_or w k 0
-
-pub record Placed (w : List ℕ) (i m h : ℕ) (p : Piece) (v : List ℕ) : Type 0 where
-  pub size : length v ≡ piece_table_length
-  pub count : count_of v ≡ m + 1
-  pub horizon : horizon_of v ≡ h
-  pub start : start_of v ≡ start_of w
+pub record Placed (w : PieceTable) (i m h : ℕ) (p : Piece) (v : PieceTable) : Type 0 where
+  pub size : length v.pieces ≡ 256
+  pub count : v.count ≡ m + 1
+  pub horizon : v.horizon.0 ≡ h
+  pub start : v.start.0 ≡ w.start.0
   pub low : (j : ℕ) → j < i → Same v j w j
   pub first : piece_first v i ≡ p.first.0
   pub end : piece_end v i ≡ p.end.0
@@ -212,59 +96,74 @@ pub record Placed (w : List ℕ) (i m h : ℕ) (p : Piece) (v : List ℕ) : Type
   pub offset : piece_offset v i ≡ p.offset.0
   pub up : (j : ℕ) → i ≤ j → j < m → Same v (suc j) w j
 
-pub ready_room : (w v : List ℕ) (i n : ℕ) → length w ≡ piece_table_length → Moved w i n v → Ready w i n (horizon_of w) (set v 0 (n + 1))
-ready_room w v i n size m = record {
-  size = length-set v 0 (n + 1) ∙ m.size ∙ size;
-  count = get_or-set_same v 0 (n + 1) 0 (omega (arith, m.size));
-  horizon = get_or-set_other v 0 1 (n + 1) 0 (λ e. omega arith) ∙ m.low 1 (omega arith);
-  start = get_or-set_other v 0 2 (n + 1) 0 (λ e. omega arith) ∙ m.low 2 (omega arith);
-  low = λ k g h. get_or-set_other v 0 k (n + 1) 0 (λ e. omega arith) ∙ m.low k h;
-  up = λ k g h. get_or-set_other v 0 (k + 4) (n + 1) 0 (λ e. omega arith) ∙ m.up k g h;
+-- the last of n pieces put there, and those from i on turned by one: it comes to place i, and the others up
+module _ (xs ys : List Piece) (i n : ℕ) (p : Piece) (some : i < n) (room : n ≤ length xs)
+    (turned : RotatedRight (mid_of i (n - i) (set xs (n - 1) p)) ys (length (mid_of i (n - i) (set xs (n - 1) p))) 1)
+    (size : length ys ≡ length (mid_of i (n - i) (set xs (n - 1) p))) where
+  long : length (mid_of i (n - i) (set xs (n - 1) p)) ≡ n - i
+  long = length-take-le (n - i) (drop i (set xs (n - 1) p)) (omega (arith, length-drop i (set xs (n - 1) p), length-set xs (n - 1) p))
+
+  front : length (take i (set xs (n - 1) p)) ≡ i
+  front = length-take-le i (set xs (n - 1) p) (omega (arith, length-set xs (n - 1) p))
+
+  mid_at : (k j : ℕ) → k < n - i → i + k ≡ j → get_or (mid_of i (n - i) (set xs (n - 1) p)) k no_piece ≡ get_or (set xs (n - 1) p) j no_piece
+  mid_at k j l e =
+      get_or-take (n - i) (drop i (set xs (n - 1) p)) k no_piece l ∙ get_or-drop i (set xs (n - 1) p) k no_piece
+      ∙ ap (λ (x : ℕ). get_or (set xs (n - 1) p) x no_piece) e
+
+  turned_low : (j : ℕ) → j < i → get_or (put_mid i (n - i) (set xs (n - 1) p) ys) j no_piece ≡ get_or xs j no_piece
+  turned_low j l =
+      get_or_append_left (take i (set xs (n - 1) p)) (ys ++ post_of i (n - i) (set xs (n - 1) p)) no_piece j (omega (arith, front))
+      ∙ get_or-take i (set xs (n - 1) p) j no_piece l ∙ get_or-set_other xs (n - 1) j p no_piece (λ e. omega arith)
+
+  turned_at : (k j : ℕ) → k < n - i → i + k ≡ j → get_or (put_mid i (n - i) (set xs (n - 1) p) ys) j no_piece ≡ get_or ys k no_piece
+  turned_at k j l e =
+      let back : j - i ≡ k = omega arith in
+      get_or-append_right (take i (set xs (n - 1) p)) (ys ++ post_of i (n - i) (set xs (n - 1) p)) i j no_piece front (omega arith)
+      ∙ ap (λ (x : ℕ). get_or (ys ++ post_of i (n - i) (set xs (n - 1) p)) x no_piece) back
+      ∙ get_or_append_left ys (post_of i (n - i) (set xs (n - 1) p)) no_piece k (omega (arith, size, long))
+
+  turned_here : get_or (put_mid i (n - i) (set xs (n - 1) p) ys) i no_piece ≡ p
+  turned_here =
+      turned_at 0 i (omega arith) (omega arith) ∙ turned.0 0 no_piece (omega arith)
+      ∙ mid_at (length (mid_of i (n - i) (set xs (n - 1) p)) - 1 + 0) (n - 1) (omega (arith, long)) (omega (arith, long))
+      ∙ get_or-set_same xs (n - 1) p no_piece (omega arith)
+
+  turned_up : (j : ℕ) → i ≤ j → j < n - 1 → get_or (put_mid i (n - i) (set xs (n - 1) p) ys) (suc j) no_piece ≡ get_or xs j no_piece
+  turned_up j g l =
+      turned_at (suc j - i) (suc j) (omega arith) (omega arith) ∙ turned.1 (suc j - i) no_piece (omega arith) (omega (arith, long))
+      ∙ mid_at (suc j - i - 1) j (omega arith) (omega arith) ∙ get_or-set_other xs (n - 1) j p no_piece (λ e. omega arith)
+
+same : {v w : PieceTable} {j k : ℕ} → piece v j ≡ piece w k → Same v j w k
+same e = record {
+  first = ap (λ (p : Piece). p.first.0) e;
+  end = ap (λ (p : Piece). p.end.0) e;
+  region = ap (λ (p : Piece). p.region) e;
+  offset = ap (λ (p : Piece). p.offset.0) e;
 }
 
-pub ready_full : (w v : List ℕ) (i x : ℕ) → length w ≡ piece_table_length → count_of w ≡ 256 → Moved (set w 1 x) i 255 v → Ready w i 255 x v
-ready_full w v i x size full m = record {
-  size = m.size ∙ length-set w 1 x ∙ size;
-  count = m.low 0 (omega arith) ∙ get_or-set_other w 1 0 x 0 (λ e. omega arith) ∙ full;
-  horizon = m.low 1 (omega arith) ∙ get_or-set_same w 1 x 0 (omega arith);
-  start = m.low 2 (omega arith) ∙ get_or-set_other w 1 2 x 0 (λ e. omega arith);
-  low = λ k g h. m.low k h ∙ get_or-set_other w 1 k x 0 (λ e. omega arith);
-  up = λ k g h. m.up k g h ∙ get_or-set_other w 1 k x 0 (λ e. omega arith);
-}
-
-module _ (w : List ℕ) (i m h : ℕ) (p : Piece) (u : List ℕ) (room : i < 256) (r : Ready w i m h u) where
-  placed_low : (k : ℕ) → 3 ≤ k → k < 3 + 4 * i → get_or (sets u (3 + 4 * i) (piece_words p)) k 0 ≡ get_or w k 0
-  placed_low k g l = put_other u (3 + 4 * i) p k (inl l) ∙ r.low k g l
-
-  placed_up : (k x : ℕ) → x ≡ k + 4 → 3 + 4 * i ≤ k → k < 3 + 4 * m → get_or (sets u (3 + 4 * i) (piece_words p)) x 0 ≡ get_or w k 0
-  placed_up k x e g l = put_other u (3 + 4 * i) p x (inr (omega arith)) ∙ word_at u x (k + 4) e ∙ r.up k g l
-
-  pub placed : Placed w i m h p (sets u (3 + 4 * i) (piece_words p))
-  placed =
-      let fits : 3 + 4 * i + 3 < length u = omega (arith, r.size) in
-      let v : List ℕ = sets u (3 + 4 * i) (piece_words p) in
-      record {
-        size = length-sets u (3 + 4 * i) (piece_words p) ∙ r.size;
-        count = put_other u (3 + 4 * i) p 0 (inl (omega arith)) ∙ r.count;
-        horizon = put_other u (3 + 4 * i) p 1 (inl (omega arith)) ∙ r.horizon;
-        start = put_other u (3 + 4 * i) p 2 (inl (omega arith)) ∙ r.start;
-        low = λ j l. record {
-          first = placed_low (3 + 4 * j) (omega arith) (omega arith);
-          end = placed_low (3 + 4 * j + 1) (omega arith) (omega arith);
-          region = placed_low (3 + 4 * j + 2) (omega arith) (omega arith);
-          offset = placed_low (3 + 4 * j + 3) (omega arith) (omega arith);
-        };
-        first = put_first u (3 + 4 * i) p fits;
-        end = word_at v (3 + 4 * i + 1) (suc (3 + 4 * i)) (omega arith) ∙ put_end u (3 + 4 * i) p fits;
-        region = word_at v (3 + 4 * i + 2) (suc (suc (3 + 4 * i))) (omega arith) ∙ put_region u (3 + 4 * i) p fits;
-        offset = word_at v (3 + 4 * i + 3) (suc (suc (suc (3 + 4 * i)))) (omega arith) ∙ put_offset u (3 + 4 * i) p fits;
-        up = λ j g l. record {
-          first = placed_up (3 + 4 * j) (3 + 4 * suc j) (omega arith) (omega arith) (omega arith);
-          end = placed_up (3 + 4 * j + 1) (3 + 4 * suc j + 1) (omega arith) (omega arith) (omega arith);
-          region = placed_up (3 + 4 * j + 2) (3 + 4 * suc j + 2) (omega arith) (omega arith) (omega arith);
-          offset = placed_up (3 + 4 * j + 3) (3 + 4 * suc j + 3) (omega arith) (omega arith) (omega arith);
-        };
-      }
+-- u has room for one piece more than m of w's: with that piece put in
+pub placed : (w u : PieceTable) (i m h : ℕ) (p : Piece) (ys : List Piece) → length w.pieces ≡ 256 → u.pieces ≡ w.pieces → u.start ≡ w.start → u.count ≡ m + 1 → u.horizon.0 ≡ h → i ≤ m → m < 256
+    → RotatedRight (mid_of i (u.count - i) (set u.pieces (u.count - 1) p)) ys (length (mid_of i (u.count - i) (set u.pieces (u.count - 1) p))) 1
+    → length ys ≡ length (mid_of i (u.count - i) (set u.pieces (u.count - 1) p))
+    → Placed w i m h p (record { count = u.count; horizon = u.horizon; start = u.start; pieces = put_mid i (u.count - i) (set u.pieces (u.count - 1) p) ys })
+placed w u i m h p ys size pieces start count horizon im few turned len =
+    let some : i < u.count = omega (arith, count) in
+    let room : u.count ≤ length u.pieces = omega (arith, count, ap length pieces) in
+    let here = turned_here u.pieces ys i u.count p some room turned len in
+    let kept : (j : ℕ) → piece u j ≡ piece w j = λ j. ap (λ (ps : List Piece). get_or ps j no_piece) pieces in
+    record {
+      size = same_len_mid i (u.count - i) (set u.pieces (u.count - 1) p) ys len ∙ length-set u.pieces (u.count - 1) p ∙ ap length pieces ∙ size;
+      count = count;
+      horizon = horizon;
+      start = ap (λ (a : GuestAddress). a.0) start;
+      low = λ j l. same (turned_low u.pieces ys i u.count p some room turned len j l ∙ kept j);
+      first = ap (λ (p : Piece). p.first.0) here;
+      end = ap (λ (p : Piece). p.end.0) here;
+      region = ap (λ (p : Piece). p.region) here;
+      offset = ap (λ (p : Piece). p.offset.0) here;
+      up = λ j g l. same (turned_up u.pieces ys i u.count p some room turned len j g (omega (arith, count)) ∙ kept j);
+    }
 
 -- a place is below i, i, or above it
 places : (i m : ℕ) (P : ℕ → Type 0) → ((j : ℕ) → j < i → P j) → P i → ((j : ℕ) → i ≤ j → j < m → P (suc j)) → (j : ℕ) → j < m + 1 → P j
@@ -276,14 +175,14 @@ places i m P low here up j h = ⊎_elim
     (side i j))
     (side j i)
 
-record Good (v : List ℕ) (j : ℕ) : Type 0 where
-  from : start_of v ≤ piece_first v j
-  near : piece_first v j < horizon_of v
+record Good (v : PieceTable) (j : ℕ) : Type 0 where
+  from : v.start.0 ≤ piece_first v j
+  near : piece_first v j < v.horizon.0
   order : piece_first v j < piece_end v j
   end : piece_end v j ≤ 2 ^ 48
   region : piece_region v j < 32
 
-module _ (w : List ℕ) (i m h : ℕ) (p : Piece) (v : List ℕ) (t : Pieces w) (f : Fits w i p) (d : Placed w i m h p v) (im : i ≤ m) (few : m ≤ 255) (mc : m ≤ count_of w) (hw : h ≤ horizon_of w) (pf : p.first.0 < h) (nearer : (j : ℕ) → j < m → piece_first w j < h) where
+module _ (w : PieceTable) (i m h : ℕ) (p : Piece) (v : PieceTable) (t : Pieces w) (f : Fits w i p) (d : Placed w i m h p v) (im : i ≤ m) (few : m ≤ 255) (mc : m ≤ w.count) (hw : h ≤ w.horizon.0) (pf : p.first.0 < h) (nearer : (j : ℕ) → j < m → piece_first w j < h) where
   new_before : (j : ℕ) → i ≤ j → j < m → p.end.0 ≤ piece_first w j
   new_before j g l = ⊎_elim
       (λ lt. omega (arith, f.after (omega arith), t.order i (omega arith), t.apart i j lt (omega arith)))
@@ -308,7 +207,7 @@ module _ (w : List ℕ) (i m h : ℕ) (p : Piece) (v : List ℕ) (t : Pieces w) 
     region = omega (arith, d.region, f.region);
   }
 
-  good : (j : ℕ) → j < count_of v → Good v j
+  good : (j : ℕ) → j < v.count → Good v j
   good j l = places i m (Good v) (λ k b. good_same k k (omega arith) (d.low k b)) good_new (λ k g b. good_same (suc k) k b (d.up k g b)) j (omega (arith, d.count))
 
   new_apart : (j k : ℕ) → j < k → k < m + 1 → piece_end v j ≤ piece_first v k
@@ -338,7 +237,7 @@ module _ (w : List ℕ) (i m h : ℕ) (p : Piece) (v : List ℕ) (t : Pieces w) 
 
   new_gives : (a : ℕ) → given v (m + 1) a ≡ or_else (given w m a) (in_span (itself p.region) p.first.0 p.offset.0 p.end.0 a)
   new_gives a =
-      let x : Resolved = in_span (itself p.region) p.first.0 p.offset.0 p.end.0 a in
+      let x : Option Found = in_span (itself p.region) p.first.0 p.offset.0 p.end.0 a in
       let e : i + (m - i) ≡ m = omega arith in
       rw add-one
       (subst (λ (y : ℕ). given v (suc y) a ≡ or_else (given w y a) x) e
@@ -359,7 +258,7 @@ module _ (w : List ℕ) (i m h : ℕ) (p : Piece) (v : List ℕ) (t : Pieces w) 
     within = omega (arith, d.horizon);
     gives = λ a l.
         ap (λ (k : ℕ). given v k a) d.count ∙ new_gives a
-        ∙ ap (λ (y : Resolved). or_else y (in_span (itself p.region) p.first.0 p.offset.0 p.end.0 a)) (sym (beyond a (omega (arith, d.horizon))));
+        ∙ ap (λ (y : Option Found). or_else y (in_span (itself p.region) p.first.0 p.offset.0 p.end.0 a)) (sym (beyond a (omega (arith, d.horizon))));
   }
 
   pub new_spot : PieceSpot v p.end.0 (i + 1)
@@ -376,33 +275,28 @@ module _ (w : List ℕ) (i m h : ℕ) (p : Piece) (v : List ℕ) (t : Pieces w) 
 
 -- What `insert` promises, in its two cases.
 
-given_suc : (w : List ℕ) (k a : ℕ) → given w (k + 1) a ≡ or_else (given w k a) (piece_gives w k a)
+given_suc : (w : PieceTable) (k a : ℕ) → given w (k + 1) a ≡ or_else (given w k a) (piece_gives w k a)
 unfolding given
 given_suc w k a = rw add-one
 
 -- below the first of the last piece that piece gives nothing
-given_less : (w : List ℕ) (k a : ℕ) → a < piece_first w k → given w (k + 1) a ≡ given w k a
+given_less : (w : PieceTable) (k a : ℕ) → a < piece_first w k → given w (k + 1) a ≡ given w k a
 given_less w k a l =
-    given_suc w k a ∙ ap (λ (x : Resolved). or_else (given w k a) x) (span_before (itself (piece_region w k)) (piece_first w k) (piece_offset w k) (piece_end w k) a l)
+    given_suc w k a ∙ ap (λ (x : Option Found). or_else (given w k a) x) (span_before (itself (piece_region w k)) (piece_first w k) (piece_offset w k) (piece_end w k) a l)
     ∙ or_nothing (given w k a)
 
-module _ (w : List ℕ) (i : ℕ) (p : Piece) (u v : List ℕ) (t : Pieces w) (f : Fits w i p) (put : v ≡ sets u (3 + 4 * i) (piece_words p)) where
-  put_placed : (m h : ℕ) → Ready w i m h u → Placed w i m h p v
-  put_placed m h r = subst (λ (x : List ℕ). Placed w i m h p x) (sym put) (placed w i m h p u f.room r)
-
-  pub insert_room : Ready w i (count_of w) (horizon_of w) u → (count_of w ≡ 256 → ⊥) → Behind w (in_span (itself p.region) p.first.0 p.offset.0 p.end.0) v × PieceSpot v p.end.0 (i + 1)
-  insert_room r some =
-      let d = put_placed (count_of w) (horizon_of w) r in
-      let few : count_of w ≤ 255 = omega (arith, t.few) in (
-        new_behind w i (count_of w) (horizon_of w) p v t f d f.place few (omega arith) (omega arith) f.near t.near (λ a l. refl),
-        new_spot w i (count_of w) (horizon_of w) p v t f d f.place few (omega arith) (omega arith) f.near t.near,
+module _ (w : PieceTable) (i : ℕ) (p : Piece) (v : PieceTable) (t : Pieces w) (f : Fits w i p) where
+  pub insert_room : Placed w i w.count w.horizon.0 p v → (w.count ≡ 256 → ⊥) → Behind w (piece_shows p) v × PieceSpot v p.end.0 (i + 1)
+  insert_room d some =
+      let few : w.count ≤ 255 = omega (arith, t.few) in (
+        new_behind w i w.count w.horizon.0 p v t f d f.place few (omega arith) (omega arith) f.near t.near (λ a l. refl),
+        new_spot w i w.count w.horizon.0 p v t f d f.place few (omega arith) (omega arith) f.near t.near,
       )
 
-  pub insert_full : Ready w i 255 (get_or w 1023 0) u → count_of w ≡ 256 → Behind w (in_span (itself p.region) p.first.0 p.offset.0 p.end.0) v × PieceSpot v p.end.0 (i + 1)
-  insert_full r full =
-      let d = put_placed 255 (piece_first w 255) r in
+  pub insert_full : Placed w i 255 (piece_first w 255) p v → w.count ≡ 256 → Behind w (piece_shows p) v × PieceSpot v p.end.0 (i + 1)
+  insert_full d full =
       let im : i ≤ 255 = omega (arith, f.room) in
-      let hw : piece_first w 255 ≤ horizon_of w = omega (arith, t.near 255 (omega arith)) in
+      let hw : piece_first w 255 ≤ w.horizon.0 = omega (arith, t.near 255 (omega arith)) in
       let nearer : (j : ℕ) → j < 255 → piece_first w j < piece_first w 255 = λ j l. omega (arith, t.order j (omega arith), t.apart j 255 l (omega arith)) in
       let pf : p.first.0 < piece_first w 255 = ⊎_elim
       (λ l. omega (arith, f.some, f.after (omega arith), nearer i l))

@@ -4,9 +4,10 @@ use mathlib.Core.Bool.{Bool, true, false, cond}
 use mathlib.Core.List.{List, [], ◌∷◌}
 use Prim.Native.Nat.{ℕ, ◌≤◌, ◌<◌}
 use native.Mathlib.Omega.{arith}
-use Rattle.region_map.specs.declared.resolve.Resolved.TheVariants.{Nothing, At}
 use Rattle.region_map.specs.declared.flat.Backing.{Backing}
 use Rattle.map_records.specs.declared.view.FlatRange.{FlatRange}
+use Rattle.std.specs.Prelude.{None}
+use Rattle.region_map.specs.Walk.{found}
 use Rattle.region_map.specs.FlatList.{joins, grown, push_after, push, inside, list_gives, range_answer, lookup}
 use Rattle.region_map.specs.FlatList.{ValuedEntry, Follows, LongestFrom, Longest}
 use Rattle.region_map.proofs.RangeTests.{Is, on, off, is, Joined, joins_on, on_joins, Place, within, before, beyond, place, inside_on, inside_before, inside_beyond}
@@ -53,8 +54,8 @@ abbrev pub Under : List FlatRange → ℕ → Type 0
 Under [] n = Unit {0}
 Under (x ∷ xs) n = (x.last.0 < n) × Under xs n
 
-leaf_eq : {k k' o o' : ℕ} → k ≡ k' → o ≡ o' → At k (record { 0 = o }) ≡ At k' (record { 0 = o' })
-leaf_eq p q = λ i. At (p i) (record { 0 = q i })
+leaf_eq : {k k' o o' : ℕ} → k ≡ k' → o ≡ o' → found k o ≡ found k' o'
+leaf_eq p q = λ i. found (p i) (q i)
 
 -- two tests that do not both hold may be asked in either order
 swap : {A : Type 0} (p q : Bool) (u v w : A) → (p ≡ true → q ≡ true → ⊥) → cond p u (cond q v w) ≡ cond q v (cond p u w)
@@ -81,7 +82,7 @@ lookup_grown x r a j hx hr = go (inside r a) (inside x a) (place r a) (place x a
     g = grown x r
 
     go : (q p : Bool) → Place r a q → Place x a p
-        → cond (inside (grown x r) a) (range_answer (grown x r) a) Nothing ≡ cond q (range_answer r a) (cond p (range_answer x a) Nothing)
+        → cond (inside (grown x r) a) (range_answer (grown x r) a) None ≡ cond q (range_answer r a) (cond p (range_answer x a) None)
     go true p (within h k) v =
         rw (inside_on (grown x r) a (omega (arith, j.next)) k)
         (leaf_eq (sym j.region) (omega (arith, j.next, j.offset)))
@@ -99,7 +100,7 @@ module _ (backing : ℕ → Backing) (r : FlatRange) (sr : ValuedEntry backing r
     where
       go : Is (joins x r) → lookup (push_after x [] r) a ≡ cond (inside r a) (range_answer r a) (lookup (x ∷ []) a)
       go (on h) = rw h (lookup_grown x r a (joins_on x r h) sx.order sr.order)
-      go (off h) = rw h (swap (inside x a) (inside r a) (range_answer x a) (range_answer r a) Nothing (disjoint x r a u.0))
+      go (off h) = rw h (swap (inside x a) (inside r a) (range_answer x a) (range_answer r a) None (disjoint x r a u.0))
   lookup_after x (y ∷ ys) a c u =
       ap (λ w. cond (inside x a) (range_answer x a) w) (lookup_after y ys a c.2 u.1)
       ∙ swap (inside x a) (inside r a) (range_answer x a) (range_answer r a) (lookup (y ∷ ys) a) (disjoint x r a u.0)

@@ -11,12 +11,13 @@ use lib.Seq.{drop-set-lt, drop-drop, take-suc, take-suc-set, length-take-le}
 use borrow.Author.Tests.{lt-ltb, le-ltb, ltb-true}
 use Rattle.map_records.specs.declared.map.GuestAddress.{GuestAddress}
 use Rattle.map_records.specs.declared.map.RegionOffset.{RegionOffset}
-use Rattle.region_map.specs.declared.resolve.Resolved.{Resolved}
-use Rattle.region_map.specs.declared.resolve.Resolved.TheVariants.{At}
+use Rattle.std.specs.Prelude.{Option}
+use Rattle.map_records.specs.declared.map.Found.{Found}
 use Rattle.region_map.specs.declared.flat.Backing.{Backing}
 use Rattle.map_records.specs.declared.view.FlatRange.{FlatRange}
 use Rattle.map_records.specs.declared.view.FlatView.{FlatView}
 use Rattle.region_map.specs.Promises.{Pushed, shift, Blank, Grew}
+use Rattle.region_map.specs.Walk.{found}
 use Rattle.region_map.specs.FlatList.{joins, grown, push_after, push, extend, flat}
 use Rattle.region_map.specs.Flatten.{view_holding}
 use Rattle.map_records.specs.View.{entries, no_range}
@@ -104,12 +105,12 @@ kept v h l e = record {
 -- a stretch that is a run
 pub step_leaf : (backing : ℕ → Backing) (l : List FlatRange) (n m : GuestAddress) (k : ℕ) (o : RegionOffset) (t : Backing) (p : Pushed) → t ≡ backing k
     → Grew (push l (record { first = n; last = m; region = k; offset = o; kind = t.kind; base = t.base })) p
-    → Grew (extend backing l n.0 m.0 (At k o)) p
+    → Grew (extend backing l n.0 m.0 (found k o.0)) p
 unfolding extend
 step_leaf backing l n m k o t p q g = rw (← q) g
 
 -- a list that is full stays full
-pub still_full : (backing : ℕ → Backing) (f : ℕ → Resolved) (n m : ℕ) (p : Pushed) → n ≤ m → p.full ≡ true → Grew (flat backing f n) p → Grew (flat backing f m) p
+pub still_full : (backing : ℕ → Backing) (f : ℕ → Option Found) (n m : ℕ) (p : Pushed) → n ≤ m → p.full ≡ true → Grew (flat backing f n) p → Grew (flat backing f m) p
 still_full backing f n m p h e g =
     let a : 256 < length (flat backing f n) = ltb-true 256 _ (sym g.full ∙ e) in
     record {
@@ -119,7 +120,7 @@ still_full backing f n m p h e g =
     }
 
 -- a stretch of s addresses that answers as one run, put behind the list of those below it: a piece, or what lies free before it
-pub turned : (backing : ℕ → Backing) (f : ℕ → Resolved) (at s : ℕ) (l : List FlatRange) (b : Resolved) (p : Pushed)
+pub turned : (backing : ℕ → Backing) (f : ℕ → Option Found) (at s : ℕ) (l : List FlatRange) (b : Option Found) (p : Pushed)
     → l ≡ flat backing f at → b ≡ f at → 0 < s → ((i : ℕ) → i < s → f (at + i) ≡ shift i (f at))
     → Grew (extend backing l at (at + (s - 1)) b) p → Grew (flat backing f (at + s)) p
 turned backing f at s l b p e q h run g =
@@ -143,7 +144,7 @@ blank_added v x b =
     rw (add-one v.count) (drop-set-lt (suc v.count) v.ranges v.count x (omega arith) ∙ rw z (drop_one v.count (256 - v.count) v.ranges no_range b))
 
 -- the empty list
-pub start : (backing : ℕ → Backing) (f : ℕ → Resolved) (v : FlatView) → v ≡ view_holding [] → (v.count ≤ 256) × (entries v ≡ flat backing f 0) × Blank v
+pub start : (backing : ℕ → Backing) (f : ℕ → Option Found) (v : FlatView) → v ≡ view_holding [] → (v.count ≤ 256) × (entries v ≡ flat backing f 0) × Blank v
 unfolding view_holding flat
 start backing f v e = rw e (omega arith, refl, refl)
 

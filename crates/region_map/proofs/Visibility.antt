@@ -17,23 +17,22 @@ use Rattle.region_map.specs.Visibility.{Holding, OneHolder, child_answer, Visibl
 use Rattle.region_map.specs.Walk.{rank, child, ranked, or_else, holds, asked, own, rank_answer, tried, walk_below, walk}
 use Rattle.region_map.specs.Promises.{tried_in, answer_in}
 use Rattle.map_records.specs.declared.map.RegionMap.{RegionMap}
-use Rattle.map_records.specs.declared.map.RegionOffset.{RegionOffset}
-use Rattle.region_map.specs.declared.resolve.Resolved.{Resolved}
-use Rattle.region_map.specs.declared.resolve.Resolved.TheVariants.{Nothing, At}
+use Rattle.std.specs.Prelude.{Option, Some, None}
+use Rattle.map_records.specs.declared.map.Found.{Found}
 use Rattle.map_check.proofs.Bools.{and_fst, and_snd}
 use Rattle.map_check.proofs.Accepted.{apart_siblings, accepted_sound, accepted_walkable}
 use Rattle.region_map.proofs.WalkLaws.{rank_mod, is_ranked, walk_below_lem, walk_inside, walk_alias, past, priority_le}
 
-module _ (m : RegionMap) (u : ℕ → ℕ → Resolved) (n a : ℕ) where
-  tried_wins : (b r k : ℕ) (o : RegionOffset) → r < b → rank_answer priority_of m u n r a ≡ At k o → ((j : ℕ) → r < j → j < b → rank_answer priority_of m u n j a ≡ Nothing) → tried priority_of m u n b a ≡ At k o
+module _ (m : RegionMap) (u : ℕ → ℕ → Option Found) (n a : ℕ) where
+  tried_wins : (b r : ℕ) (x : Found) → r < b → rank_answer priority_of m u n r a ≡ Some x → ((j : ℕ) → r < j → j < b → rank_answer priority_of m u n j a ≡ None) → tried priority_of m u n b a ≡ Some x
   unfolding tried
-  tried_wins zero r k o h e f = absurd (omega arith)
-  tried_wins (suc b) r k o h e f =
-      ⊎_elim (λ (q : r ≡ b). ap (λ (x : Resolved). or_else x (tried priority_of m u n b a)) (ap (λ (j : ℕ). rank_answer priority_of m u n j a) (sym q) ∙ e))
-      (λ (q : r < b). rw (f b q (omega arith)) (tried_wins b r k o q e (λ j p l. f j p (omega arith))))
+  tried_wins zero r x h e f = absurd (omega arith)
+  tried_wins (suc b) r x h e f =
+      ⊎_elim (λ (q : r ≡ b). ap (λ (v : Option Found). or_else v (tried priority_of m u n b a)) (ap (λ (j : ℕ). rank_answer priority_of m u n j a) (sym q) ∙ e))
+      (λ (q : r < b). rw (f b q (omega arith)) (tried_wins b r x q e (λ j p l. f j p (omega arith))))
       (eq-or-lt_of_le {n = r} {m = b} (omega arith))
 
-  tried_none : (b : ℕ) → ((j : ℕ) → j < b → rank_answer priority_of m u n j a ≡ Nothing) → tried priority_of m u n b a ≡ own m n a
+  tried_none : (b : ℕ) → ((j : ℕ) → j < b → rank_answer priority_of m u n j a ≡ None) → tried priority_of m u n b a ≡ own m n a
   unfolding tried
   tried_none zero f = refl
   tried_none (suc b) f = rw (f b (omega arith)) (tried_none b (λ j l. f j (omega arith)))
@@ -57,17 +56,17 @@ held m n a j p q =
 
 -- what stands at a rank: nothing, or the answer of the child that has it
 module _ (m : RegionMap) (n a j : ℕ) where
-  rank_answer_lem : ((c : ℕ) → Holding m n a c → rank priority_of m c ≡ j → child_answer m (walk m) a c ≡ Nothing) → answer_in m n j a ≡ Nothing
+  rank_answer_lem : ((c : ℕ) → Holding m n a c → rank priority_of m c ≡ j → child_answer m (walk m) a c ≡ None) → answer_in m n j a ≡ None
   unfolding rank_answer asked
   rank_answer_lem f = go (ranked priority_of m n j) refl (holds m (j % 32) a) refl
     where
-      here : ranked priority_of m n j ≡ true → holds m (j % 32) a ≡ true → walk_below priority_of m n (j % 32) (a - (region m (j % 32)).offset) ≡ Nothing
+      here : ranked priority_of m n j ≡ true → holds m (j % 32) a ≡ true → walk_below priority_of m n (j % 32) (a - (region m (j % 32)).offset) ≡ None
       here p q =
           let is = held m n a j p q in
           walk_below_lem m n (j % 32) (a - (region m (j % 32)).offset) is.below ∙ f (j % 32) is (ranked_rank m n j p)
 
       go : (x : Bool) → ranked priority_of m n j ≡ x → (y : Bool) → holds m (j % 32) a ≡ y
-          → cond x (cond y (walk_below priority_of m n (j % 32) (a - (region m (j % 32)).offset)) Nothing) Nothing ≡ Nothing
+          → cond x (cond y (walk_below priority_of m n (j % 32) (a - (region m (j % 32)).offset)) None) None ≡ None
       go true p true q = here p q
       go true p false q = refl
       go false p y q = refl
@@ -135,18 +134,18 @@ module _ (m : RegionMap) (memory : ℕ) (ok : Accepted m memory) (n a : ℕ) (kn
           absurd (omega (arith, one_holder m memory ok n a known inside c e p q same))
 
   -- 'in descending priority order': a child that answers wins, where every child of a higher priority that holds the address answers nothing
-  child_wins : (c k : ℕ) (o : RegionOffset) → Holding m n a c → child_answer m (walk m) a c ≡ At k o
-      → ((e : ℕ) → Holding m n a e → priority_of (region m c) < priority_of (region m e) → child_answer m (walk m) a e ≡ Nothing) → walk m n a ≡ At k o
+  child_wins : (c : ℕ) (x : Found) → Holding m n a c → child_answer m (walk m) a c ≡ Some x
+      → ((e : ℕ) → Holding m n a e → priority_of (region m c) < priority_of (region m e) → child_answer m (walk m) a e ≡ None) → walk m n a ≡ Some x
   unfolding s
-  child_wins c k o h x f =
+  child_wins c x h e f =
       let few = s.count in
       let l : c < 32 = omega (arith, h.below) in
       walk_inside m n kind a inside
-      ∙ tried_wins m (walk_below priority_of m n) n a 8192 (rank priority_of m c) k o (rank_bound c h.below) (own_rank m n a (rank priority_of m c) c l h refl ∙ x)
-      (λ j p q. rank_answer_lem m n a j (λ e g r. f e g (higher c e h g (let z : rank priority_of m c < rank priority_of m e = omega arith in z))))
+      ∙ tried_wins m (walk_below priority_of m n) n a 8192 (rank priority_of m c) x (rank_bound c h.below) (own_rank m n a (rank priority_of m c) c l h refl ∙ e)
+      (λ j p q. rank_answer_lem m n a j (λ d g r. f d g (higher c d h g (let z : rank priority_of m c < rank priority_of m d = omega arith in z))))
 
   -- 'if none of the subregions match': the region itself
-  none_wins : ((e : ℕ) → Holding m n a e → child_answer m (walk m) a e ≡ Nothing) → walk m n a ≡ own m n a
+  none_wins : ((e : ℕ) → Holding m n a e → child_answer m (walk m) a e ≡ None) → walk m n a ≡ own m n a
   none_wins f = walk_inside m n kind a inside ∙ tried_none m (walk_below priority_of m n) n a 8192 (λ j q. rank_answer_lem m n a j (λ e g r. f e g))
 
 -- all four cases
@@ -160,14 +159,14 @@ visibility m memory ok n a known =
     }
 
 -- the child at a rank that answers
-answering : (m : RegionMap) (n a j k : ℕ) (o : RegionOffset) → answer_in m n j a ≡ At k o
-    → Holding m n a (j % 32) × (rank priority_of m (j % 32) ≡ j) × (child_answer m (walk m) a (j % 32) ≡ At k o)
+answering : (m : RegionMap) (n a j : ℕ) (x : Found) → answer_in m n j a ≡ Some x
+    → Holding m n a (j % 32) × (rank priority_of m (j % 32) ≡ j) × (child_answer m (walk m) a (j % 32) ≡ Some x)
 unfolding rank_answer asked
-answering m n a j k o = go (ranked priority_of m n j) refl (holds m (j % 32) a) refl
+answering m n a j x = go (ranked priority_of m n j) refl (holds m (j % 32) a) refl
   where
-    go : (x : Bool) → ranked priority_of m n j ≡ x → (y : Bool) → holds m (j % 32) a ≡ y
-        → cond x (cond y (walk_below priority_of m n (j % 32) (a - (region m (j % 32)).offset)) Nothing) Nothing ≡ At k o
-        → Holding m n a (j % 32) × (rank priority_of m (j % 32) ≡ j) × (child_answer m (walk m) a (j % 32) ≡ At k o)
+    go : (b : Bool) → ranked priority_of m n j ≡ b → (y : Bool) → holds m (j % 32) a ≡ y
+        → cond b (cond y (walk_below priority_of m n (j % 32) (a - (region m (j % 32)).offset)) None) None ≡ Some x
+        → Holding m n a (j % 32) × (rank priority_of m (j % 32) ≡ j) × (child_answer m (walk m) a (j % 32) ≡ Some x)
     go true p true q e =
         let is = held m n a j p q in
         (is, ranked_rank m n j p, sym (walk_below_lem m n (j % 32) (a - (region m (j % 32)).offset) is.below) ∙ e)
@@ -180,30 +179,30 @@ unfolding rank
 rank_above m c e l p = omega arith
 
 -- the rules leave no choice: a walk that keeps them at every region is this one
-module _ (m : RegionMap) (memory : ℕ) (ok : Accepted m memory) (f : ℕ → ℕ → Resolved) (rules : (n a : ℕ) → n < m.count → Visible m f n a) where
+module _ (m : RegionMap) (memory : ℕ) (ok : Accepted m memory) (f : ℕ → ℕ → Option Found) (rules : (n a : ℕ) → n < m.count → Visible m f n a) where
   module _ (n a : ℕ) (known : n < m.count) (lower : (c x : ℕ) → c < n → f c x ≡ walk m c x) (inside : a < (region m n).size) (kind : (region m n).kind ≡ alias → ⊥) where
     -- a child whose rank answers nothing answers nothing
-    silent : (e : ℕ) → Holding m n a e → answer_in m n (rank priority_of m e) a ≡ Nothing → child_answer m f a e ≡ Nothing
+    silent : (e : ℕ) → Holding m n a e → answer_in m n (rank priority_of m e) a ≡ None → child_answer m f a e ≡ None
     silent e h q =
         let few = (accepted_sound m memory ok).count in
         let below = h.below in
         let l : e < 32 = omega arith in
         lower e (a - (region m e).offset) below ∙ sym (own_rank m n a (rank priority_of m e) e l h refl) ∙ q
 
-    by_ranks : (r : ℕ) → ((e : ℕ) → Holding m n a e → r ≤ rank priority_of m e → answer_in m n (rank priority_of m e) a ≡ Nothing) → f n a ≡ tried_in m n r a
+    by_ranks : (r : ℕ) → ((e : ℕ) → Holding m n a e → r ≤ rank priority_of m e → answer_in m n (rank priority_of m e) a ≡ None) → f n a ≡ tried_in m n r a
     unfolding tried
     by_ranks zero above = (rules n a known).none inside kind (λ e h. silent e h (above e h (omega arith)))
     by_ranks (suc r) above = go (answer_in m n r a) refl (by_ranks r)
       where
-        go : (x : Resolved) → answer_in m n r a ≡ x
-            → (((e : ℕ) → Holding m n a e → r ≤ rank priority_of m e → answer_in m n (rank priority_of m e) a ≡ Nothing) → f n a ≡ tried_in m n r a)
+        go : (x : Option Found) → answer_in m n r a ≡ x
+            → (((e : ℕ) → Holding m n a e → r ≤ rank priority_of m e → answer_in m n (rank priority_of m e) a ≡ None) → f n a ≡ tried_in m n r a)
             → f n a ≡ or_else x (tried_in m n r a)
-        go Nothing q ih = ih (λ e h l.
+        go None q ih = ih (λ e h l.
             ⊎_elim (λ (s : r ≡ rank priority_of m e). ap (λ (j : ℕ). answer_in m n j a) (sym s) ∙ q) (λ (s : r < rank priority_of m e). above e h s)
             (eq-or-lt_of_le {n = r} {m = rank priority_of m e} l))
-        go (At k o) q ih =
-            let won = answering m n a r k o q in
-            (rules n a known).child inside kind (r % 32) k o won.0 (lower (r % 32) (a - (region m (r % 32)).offset) won.0.below ∙ won.2)
+        go (Some x) q ih =
+            let won = answering m n a r x q in
+            (rules n a known).child inside kind (r % 32) x won.0 (lower (r % 32) (a - (region m (r % 32)).offset) won.0.below ∙ won.2)
             (λ e h p. silent e h (above e h (let z = rank_above m (r % 32) e (omega arith) p in let y = won.1 in omega arith)))
 
   only_below : (k n a : ℕ) → n < k → n < m.count → f n a ≡ walk m n a

@@ -9,12 +9,12 @@ use borrow.Author.Tests.{eq-eqb, ne_eqb, le-leb, lt-leb, eqb-true, eqb-false, lt
 use lib.Dec.{eqb, ltb}
 use Rattle.map_records.specs.declared.map.Region.{Region}
 use Rattle.map_records.specs.declared.map.RegionMap.{RegionMap}
-use Rattle.region_map.specs.declared.resolve.Resolved.{Resolved}
-use Rattle.region_map.specs.declared.resolve.Resolved.TheVariants.{Nothing, At}
+use Rattle.std.specs.Prelude.{Option, Some, None}
+use Rattle.map_records.specs.declared.map.Found.{Found}
 use Rattle.map_check.proofs.Bools.{and_fst, and_snd, and_no}
 use Rattle.map_records.specs.Map.{mmio, region}
 use Rattle.map_check.specs.Clash.{default_of, priority_of}
-use Rattle.region_map.specs.Walk.{rank, child, ranked, or_else, holds, asked, own, rank_answer, tried, walk_at, walk_below, walk, walk_by}
+use Rattle.region_map.specs.Walk.{found, rank, child, ranked, or_else, holds, asked, own, rank_answer, tried, walk_at, walk_below, walk, walk_by}
 use Rattle.map_check.specs.Promises.{Walkable}
 use Rattle.region_map.specs.Promises.{NextChild, tried_in, answer_in}
 
@@ -79,25 +79,25 @@ walk_below_lem m (suc k) c a h = go (eqb c k) refl (walk_below_lem m k c a)
 
 -- Children that are passed over.
 
-none_ranked : (m : RegionMap) (u : ℕ → ℕ → Resolved) (n r a : ℕ) → ranked priority_of m n r ≡ false → rank_answer priority_of m u n r a ≡ Nothing
+none_ranked : (m : RegionMap) (u : ℕ → ℕ → Option Found) (n r a : ℕ) → ranked priority_of m n r ≡ false → rank_answer priority_of m u n r a ≡ None
 unfolding rank_answer
 none_ranked m u n r a e = rw e
 
-skip : (m : RegionMap) (u : ℕ → ℕ → Resolved) (n r a j : ℕ) → ((k : ℕ) → r ≤ k → k < r + j → ranked priority_of m n k ≡ false) → tried priority_of m u n (r + j) a ≡ tried priority_of m u n r a
+skip : (m : RegionMap) (u : ℕ → ℕ → Option Found) (n r a j : ℕ) → ((k : ℕ) → r ≤ k → k < r + j → ranked priority_of m n k ≡ false) → tried priority_of m u n (r + j) a ≡ tried priority_of m u n r a
 unfolding tried
 skip m u n r a zero h = rw add-zero
 skip m u n r a (suc j) h =
     rw (add-suc, none_ranked m u n (r + j) a (h (r + j) (omega arith) (omega arith)))
     (skip m u n r a j (λ k l g. h k l (omega arith)))
 
-tried_skip : (m : RegionMap) (u : ℕ → ℕ → Resolved) (n b r : ℕ) → r ≤ b → ((k : ℕ) → r ≤ k → k < b → ranked priority_of m n k ≡ false) → (a : ℕ) → tried priority_of m u n b a ≡ tried priority_of m u n r a
+tried_skip : (m : RegionMap) (u : ℕ → ℕ → Option Found) (n b r : ℕ) → r ≤ b → ((k : ℕ) → r ≤ k → k < b → ranked priority_of m n k ≡ false) → (a : ℕ) → tried priority_of m u n b a ≡ tried priority_of m u n r a
 tried_skip m u n b r l h a =
     let e : r + (b - r) ≡ b = omega arith in
     rw e at (skip m u n r a (b - r) (λ k g w. h k g (omega arith)))
 
 -- A child.
 
-pub past : (m : RegionMap) (n x : ℕ) → (region m n).size ≤ x → walk m n x ≡ Nothing
+pub past : (m : RegionMap) (n x : ℕ) → (region m n).size ≤ x → walk m n x ≡ None
 unfolding walk_by walk_at
 past m n x l = rw (le-leb _ _ l)
 
@@ -105,21 +105,21 @@ pub child_at : (m : RegionMap) (n k : ℕ) → ranked priority_of m n k ≡ true
 unfolding rank_answer asked holds
 child_at m n k e x h = rw (e, le-leb _ _ h) (go (ltb x ((region m (k % 32)).offset + (region m (k % 32)).size)) refl)
   where
-    go : (b : Bool) → ltb x ((region m (k % 32)).offset + (region m (k % 32)).size) ≡ b → cond b (walk_below priority_of m n (k % 32) (x - (region m (k % 32)).offset)) Nothing ≡ walk m (k % 32) (x - (region m (k % 32)).offset)
+    go : (b : Bool) → ltb x ((region m (k % 32)).offset + (region m (k % 32)).size) ≡ b → cond b (walk_below priority_of m n (k % 32) (x - (region m (k % 32)).offset)) None ≡ walk m (k % 32) (x - (region m (k % 32)).offset)
     go true t = walk_below_lem m n (k % 32) _ (child_below m n k e)
     go false t = sym (past m (k % 32) _ (omega (arith, ltb-false x ((region m (k % 32)).offset + (region m (k % 32)).size) t)))
 
-pub child_before : (m : RegionMap) (n k : ℕ) → ranked priority_of m n k ≡ true → (x : ℕ) → x < (region m (k % 32)).offset → answer_in m n k x ≡ Nothing
+pub child_before : (m : RegionMap) (n k : ℕ) → ranked priority_of m n k ≡ true → (x : ℕ) → x < (region m (k % 32)).offset → answer_in m n k x ≡ None
 unfolding rank_answer asked holds
 child_before m n k e x h = rw (e, lt-leb _ _ h)
 
 -- A node itself.
 
-pub own_is : (m : RegionMap) (n : ℕ) → ((region m n).kind ≡ 0 → ⊥) → (x : ℕ) → own m n x ≡ At n (record { 0 = x })
+pub own_is : (m : RegionMap) (n : ℕ) → ((region m n).kind ≡ 0 → ⊥) → (x : ℕ) → own m n x ≡ found n x
 unfolding own
 own_is m n e x = rw (ne_eqb _ _ e)
 
-pub own_none : (m : RegionMap) (n : ℕ) → (region m n).kind ≡ 0 → (x : ℕ) → own m n x ≡ Nothing
+pub own_none : (m : RegionMap) (n : ℕ) → (region m n).kind ≡ 0 → (x : ℕ) → own m n x ≡ None
 unfolding own
 own_none m n e x = rw (eq-eqb _ _ e)
 
@@ -135,15 +135,13 @@ walk_inside m n e x h = rw (lt-leb _ _ h, ne_eqb _ _ e)
 
 -- From what the search for the next child finds.
 
-pub is_child : (m : RegionMap) (n b r : ℕ) → NextChild m n b r → (r ≡ 0 → ⊥) → ranked priority_of m n (r - 1) ≡ true
-is_child m n b r h ne = h.found (r - 1) (omega arith)
+pub is_child : {m : RegionMap} {n b k : ℕ} → NextChild m n b (Some k) → ranked priority_of m n k ≡ true
+is_child {k = k} h = h.found k refl
 
-pub tried_none : (m : RegionMap) (u : ℕ → ℕ → Resolved) (n b r : ℕ) → NextChild m n b r → r ≡ 0 → (x : ℕ) → tried priority_of m u n b x ≡ own m n x
+pub tried_none : (m : RegionMap) (u : ℕ → ℕ → Option Found) (n b : ℕ) → NextChild m n b None → (x : ℕ) → tried priority_of m u n b x ≡ own m n x
 unfolding tried
-tried_none m u n b r h e x = tried_skip m u n b r h.within h.above x ∙ ap (λ (j : ℕ). tried priority_of m u n j x) e
+tried_none m u n b h x = tried_skip m u n b 0 h.within h.above x
 
-pub tried_next : (m : RegionMap) (u : ℕ → ℕ → Resolved) (n b r : ℕ) → NextChild m n b r → (r ≡ 0 → ⊥) → (x : ℕ) → tried priority_of m u n b x ≡ or_else (rank_answer priority_of m u n (r - 1) x) (tried priority_of m u n (r - 1) x)
+pub tried_next : (m : RegionMap) (u : ℕ → ℕ → Option Found) (n b k : ℕ) → NextChild m n b (Some k) → (x : ℕ) → tried priority_of m u n b x ≡ or_else (rank_answer priority_of m u n k x) (tried priority_of m u n k x)
 unfolding tried
-tried_next m u n b r h ne x =
-    let e : r ≡ suc (r - 1) = omega arith in
-    tried_skip m u n b r h.within h.above x ∙ ap (λ (j : ℕ). tried priority_of m u n j x) e
+tried_next m u n b k h x = tried_skip m u n b (suc k) h.within h.above x

@@ -1,8 +1,9 @@
 -- The flat list ('Runs'): made address by address, what it gives an address, and what a list of longest runs is. Here a run is a range. Assumes nothing: these are definitions.
 use Rattle.std.specs.Prelude.{◌≡◌, Bool, false, cond, ◌&&◌, List, [], ◌∷◌, ℕ, zero, suc, ◌+◌, ◌≤◌, ◌<◌, leb, eqb}
-use Rattle.region_map.specs.declared.resolve.Resolved.{Resolved}
-use Rattle.region_map.specs.declared.resolve.Resolved.TheVariants.{Nothing, At}
+use Rattle.std.specs.Prelude.{Option, Some, None}
+use Rattle.map_records.specs.declared.map.Found.{Found}
 use Rattle.map_records.specs.View.{offset_in}
+use Rattle.region_map.specs.Walk.{found}
 use Rattle.map_records.specs.declared.view.FlatRange.{FlatRange}
 use Rattle.region_map.specs.declared.flat.Backing.{Backing}
 
@@ -30,12 +31,12 @@ push [] r = r ∷ []
 push (x ∷ xs) r = push_after x xs r
 
 -- the addresses from first to last, which answer as one run, put behind a list
-unfoldable pub extend : (ℕ → Backing) → List FlatRange → ℕ → ℕ → Resolved → List FlatRange
-extend backing l first last Nothing = l
-extend backing l first last (At k o) = push l (range_for backing first last k o.0)
+unfoldable pub extend : (ℕ → Backing) → List FlatRange → ℕ → ℕ → Option Found → List FlatRange
+extend backing l first last None = l
+extend backing l first last (Some x) = push l (range_for backing first last x.region x.offset.0)
 
 -- the ranges of the answers f at the first n addresses, one address after the other
-unfoldable pub flat : (ℕ → Backing) → (ℕ → Resolved) → ℕ → List FlatRange
+unfoldable pub flat : (ℕ → Backing) → (ℕ → Option Found) → ℕ → List FlatRange
 flat backing f zero = []
 flat backing f (suc n) = extend backing (flat backing f n) n n (f n)
 
@@ -48,12 +49,12 @@ list_gives none gives [] a = none
 list_gives none gives (x ∷ xs) a = cond (inside x a) (gives x a) (list_gives none gives xs a)
 
 -- 'the entry's node at offset + a - first'
-abbrev pub range_answer : FlatRange → ℕ → Resolved
-range_answer x a = At x.region (record { 0 = offset_in x a })
+abbrev pub range_answer : FlatRange → ℕ → Option Found
+range_answer x a = found x.region (offset_in x a)
 
 -- 'A list gives an address a in an entry (first to last) the entry's node at offset + a - first, and any other address nothing'
-abbrev pub lookup : List FlatRange → ℕ → Resolved
-lookup = list_gives Nothing range_answer
+abbrev pub lookup : List FlatRange → ℕ → Option Found
+lookup = list_gives None range_answer
 
 -- 'no empty entry', and one that 'carries these node values'
 pub record ValuedEntry (backing : ℕ → Backing) (x : FlatRange) : Type 0 where

@@ -1,10 +1,10 @@
 -- The flat view of a given map, and demand 3's first half. Assumes nothing: these are definitions.
-use Rattle.std.specs.Prelude.{◌≡◌, cond, List, [], ◌++◌, ℕ, ◌-◌, eqb, ltb, length, replicate}
+use Rattle.std.specs.Prelude.{◌≡◌, cond, List, [], ◌++◌, ℕ, ◌-◌, eqb, ltb, length, replicate, Result}
 use Rattle.map_records.specs.Map.{mmio, has_memory, region}
 use Rattle.map_records.specs.View.{no_range}
 use Rattle.map_records.specs.Words.{view_words}
-use Rattle.map_check.specs.Reply.{Reply, accepted, plain, if_accepted, Laid, laid_into}
-use Rattle.map_check.specs.Check.{reply, judged}
+use Rattle.map_check.specs.Reply.{Reply, accepted, plain, reply_by, if_accepted, Laid, laid_into}
+use Rattle.map_check.specs.Check.{fault_reply, judged}
 use Rattle.region_map.specs.Walk.{walk_root}
 use Rattle.region_map.specs.FlatList.{flat, lookup, Longest}
 use Rattle.map_records.specs.Refusal as refusal
@@ -13,8 +13,8 @@ use Rattle.map_records.specs.declared.map.Region.{Region}
 use Rattle.map_records.specs.declared.map.RegionMap.{RegionMap}
 use Rattle.map_records.specs.declared.view.FlatRange.{FlatRange}
 use Rattle.map_records.specs.declared.view.FlatView.{FlatView}
-use Rattle.region_map.specs.declared.view.FlatAnswer.{FlatAnswer}
-use Rattle.region_map.specs.declared.view.FlatAnswer.TheVariants.{Checked, TooMany, Record}
+use Rattle.region_map.specs.declared.view.FlatFault.{FlatFault}
+use Rattle.region_map.specs.declared.view.FlatFault.TheVariants as fault
 use Rattle.region_map.specs.declared.flat.Backing.{Backing}
 
 -- 'its node's kind and memory start or port'; a kind that has neither has 0
@@ -64,11 +64,15 @@ unfoldable pub flattened_into : RegionMap → ℕ → List ℕ → Laid
 flattened_into m memory view =
     cond (is_view view) (view_laid (flattened m memory) view) (record { reply = plain refusal.RECORD; words = view })
 
--- document 01's number for each answer
-abbrev pub flat_reply : FlatAnswer → Reply
-flat_reply (Checked a) = reply a
-flat_reply TooMany = plain refusal.RUNS
-flat_reply Record = plain refusal.RECORD
+-- document 01's number for each fault of making a view, with the map's nodes
+abbrev pub flat_fault_reply : FlatFault → Reply
+flat_fault_reply (fault.Map f) = fault_reply f
+flat_fault_reply fault.TooMany = plain refusal.RUNS
+flat_fault_reply fault.Record = plain refusal.RECORD
+
+-- and for each answer
+abbrev pub flat_reply : Result Unit FlatFault → Reply
+flat_reply = reply_by flat_fault_reply
 
 -- Demand 3, first half: at every address l gives what the walk from the root gives, it is a list of longest runs, and every such list with these answers is equal to it
 pub record FirstHalf (m : RegionMap) (l : List FlatRange) : Type 0 where

@@ -1,26 +1,28 @@
 -- What the functions inside the crate promise each other. No promise of an entry point cites these. Assumes nothing: these are definitions.
-use Rattle.std.specs.Prelude.{◌≡◌, Bool, true, false, List, ℕ, ◌+◌, ◌-◌, ◌≤◌, ◌<◌, ltb, length, drop, replicate}
+use Rattle.std.specs.Prelude.{◌≡◌, Bool, true, false, List, ℕ, suc, ◌+◌, ◌-◌, ◌≤◌, ◌<◌, ltb, length, drop, replicate}
 use Rattle.map_records.specs.View.{no_range, range_of, entries}
 use Rattle.map_records.specs.Words.{map_of, view_of}
 use Rattle.map_check.specs.Clash.{priority_of}
 use Rattle.map_check.specs.Promises.{Tree}
-use Rattle.region_map.specs.Walk.{ranked, rank_answer, tried, walk_below, walk_root}
+use Rattle.region_map.specs.Walk.{found, ranked, rank_answer, tried, walk_below, walk_root}
 use Rattle.region_map.specs.Flatten.{flat_below}
-use Rattle.region_map.specs.Pieces.{start_of, Pieces, WholeTable}
+use Rattle.region_map.specs.Pieces.{Pieces, WholeTable}
 use Rattle.map_records.specs.Limits.{most_ranges, map_length, view_length}
 use Rattle.map_records.specs.declared.map.RegionMap.{RegionMap}
 use Rattle.map_records.specs.declared.view.FlatRange.{FlatRange}
 use Rattle.map_records.specs.declared.view.FlatView.{FlatView}
-use Rattle.region_map.specs.declared.resolve.Resolved.{Resolved}
-use Rattle.region_map.specs.declared.resolve.Resolved.TheVariants.{Nothing, At}
+use Rattle.std.specs.Prelude.{Option, Some, None, Result, is_err}
+use Rattle.map_records.specs.declared.map.Found.{Found}
+use Rattle.region_map.specs.declared.flat.TooManyRanges.{TooManyRanges}
+use Rattle.region_map.specs.declared.pieces.PieceTable.{PieceTable}
 
 -- The walk.
 
 -- the walk at the children of n of the ranks below r and then at n, and at its child of rank r
-abbrev pub tried_in : RegionMap → ℕ → ℕ → ℕ → Resolved
+abbrev pub tried_in : RegionMap → ℕ → ℕ → ℕ → Option Found
 tried_in m n r a = tried priority_of m (walk_below priority_of m n) n r a
 
-abbrev pub answer_in : RegionMap → ℕ → ℕ → ℕ → Resolved
+abbrev pub answer_in : RegionMap → ℕ → ℕ → ℕ → Option Found
 answer_in m n r a = rank_answer priority_of m (walk_below priority_of m n) n r a
 
 -- region n of a map that can be gone through
@@ -28,16 +30,21 @@ pub record InTree (w : List ℕ) (n : ℕ) : Type 0 where
   pub tree : Tree w
   pub below : n < (map_of w).count
 
--- what the search for the next child finds: 0 where no child of n has a rank below b, else one more than the highest such rank
-pub record NextChild (m : RegionMap) (n b r : ℕ) : Type 0 where
-  pub within : r ≤ b
-  pub found : (k : ℕ) → r ≡ k + 1 → ranked priority_of m n k ≡ true
-  pub above : (k : ℕ) → r ≤ k → k < b → ranked priority_of m n k ≡ false
+-- the first number past one that was found
+abbrev pub past : Option ℕ → ℕ
+past None = 0
+past (Some k) = suc k
+
+-- what the search for the next child finds: the highest rank below b of a child of n
+pub record NextChild (m : RegionMap) (n b : ℕ) (r : Option ℕ) : Type 0 where
+  pub within : past r ≤ b
+  pub found : (k : ℕ) → r ≡ Some k → ranked priority_of m n k ≡ true
+  pub above : (k : ℕ) → past r ≤ k → k < b → ranked priority_of m n k ≡ false
 
 -- the same answer, d bytes on; what the laws of ranges call a run
-abbrev pub shift : ℕ → Resolved → Resolved
-shift d Nothing = Nothing
-shift d (At n o) = At n (record { 0 = o.0 + d })
+abbrev pub shift : ℕ → Option Found → Option Found
+shift d None = None
+shift d (Some x) = found x.region (x.offset.0 + d)
 
 -- The view.
 
@@ -66,15 +73,15 @@ abbrev pub Blank : FlatView → Type 0
 Blank v = drop v.count v.ranges ≡ replicate (most_ranges - v.count) no_range
 
 -- the same of a view as words: from `before` to `after`
-pub record Grows (l : List FlatRange) (before : List ℕ) (full : Bool) (after : List ℕ) : Type 0 where
-  pub grew : Grew l (record { full = full; view = view_of after })
+pub record Grows (l : List FlatRange) (before : List ℕ) (answer : Result Unit TooManyRanges) (after : List ℕ) : Type 0 where
+  pub grew : Grew l (record { full = is_err answer; view = view_of after })
   pub blank : Blank (view_of before) → Blank (view_of after)
   pub words : length after ≡ view_length
 
 -- a table that is whole from where the view of the same map ends
-pub record Emits (map view table : List ℕ) : Type 0 where
+pub record Emits (map view : List ℕ) (table : PieceTable) : Type 0 where
   pub words : length map ≡ map_length
   pub room : Viewed view
   pub pieces : Pieces table
-  pub list : entries (view_of view) ≡ flat_below (map_of map) (start_of table)
+  pub list : entries (view_of view) ≡ flat_below (map_of map) table.start.0
   pub whole : WholeTable (walk_root (map_of map)) table

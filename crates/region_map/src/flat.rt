@@ -7,13 +7,13 @@ ghost use Rattle.region_map.specs.FlatList.{joins, push};
 ghost use Rattle.region_map.specs.Flatten.{base_of, backing_of, flat_below, flat_list, view_holding};
 ghost use Rattle.map_check.specs.Promises.{Tree};
 ghost use Rattle.region_map.specs.Promises.{Viewed, NoEmptyRange, Grows, Emits};
-ghost use Rattle.region_map.specs.Pieces.{horizon_of};
 ghost use Rattle.map_records.specs.Limits.{map_length, view_length, most_regions};
 
-use crate::pieces::{AddressSpan, COUNT, WORDS, begin, horizon, nearer, piece_at};
+use crate::pieces::{AddressSpan, PieceTable, nearer};
 use crate::render::render;
 use crate::resolve::root_offset;
-use map_records::map::{GuestAddress, MMIO, Region, has_memory};
+use map_records::kind::Kind;
+use map_records::map::{GuestAddress, Region};
 use map_records::view::{FlatRange, RANGES};
 use map_records::words::{count_of, put_count, put_range, range_at, region_at, region_count};
 
@@ -23,6 +23,10 @@ pub struct Backing {
     pub kind: u64,
     pub base: u64,
 }
+
+// The view is full: there are more than 256 ranges.
+#[derive(Clone, Copy, Debug, PartialEq, Eq)]
+pub struct TooManyRanges;
 
 // Does r go on where x ends: the next address, the same region, the next offset?
 fn goes_on(x: FlatRange, r: FlatRange) -> bool
@@ -44,8 +48,8 @@ fn goes_on(x: FlatRange, r: FlatRange) -> bool
     r.offset.0 - x.offset.0 == r.first.0 - x.first.0
 }
 
-// One range more in the view, or the last one grown. Is it full, so that there was no room?
-fn push_range(view: &mut [u64], r: FlatRange) -> bool
+// One range more in the view, or the last one grown.
+fn push_range(view: &mut [u64], r: FlatRange) -> Result<(), TooManyRanges>
     requires { Viewed view.old × NoEmptyRange (view_of view.old) }
     ensures { Grows (push (entries (view_of view.old)) r) view.old result view.new }
 {
@@ -54,37 +58,28 @@ fn push_range(view: &mut [u64], r: FlatRange) -> bool
         let k = n - 1;
         let x = range_at(view, k);
         if goes_on(x, r) {
-            let first = x.first;
-            let last = r.last;
-            let offset = x.offset;
-            let grown = FlatRange {
-                first,
-                last,
-                region: x.region,
-                offset,
-                kind: x.kind,
-                base: x.base,
-            };
+            let grown = FlatRange { last: r.last, ..x };
             put_range(view, k, grown);
-            return false;
+            return Ok(());
         }
     }
     if n == RANGES {
-        return true;
+        return Err(TooManyRanges);
     }
     put_range(view, n, r);
     put_count(view, n + 1);
-    false
+    Ok(())
 }
 
 // A region's memory start or port; 0 where its kind has neither.
 fn base_of(r: Region) -> u64
     ensures { result ≡ base_of r }
 {
-    if has_memory(r.kind) {
-        return r.memory_start;
+    match Kind::try_from(r.kind) {
+        Ok(Kind::Ram | Kind::Managed) => r.memory_start,
+        Ok(Kind::Mmio) => r.port,
+        _ => 0,
     }
-    if r.kind == MMIO { r.port } else { 0 }
 }
 
 fn backing_of(map: &[u64], n: usize) -> Backing
@@ -107,33 +102,25 @@ fn last_before(end: GuestAddress) -> GuestAddress
 }
 
 // The pieces of a table, which is whole from where the view ends up to its horizon, put into the view.
-fn emit(map: &[u64], view: &mut [u64], table: &[u64]) -> bool
+fn emit(map: &[u64], view: &mut [u64], table: &PieceTable) -> Result<(), TooManyRanges>
     requires { Emits map.now view.old table.now }
-    ensures { Grows (flat_below (map_of map.now) (horizon_of table.now))
+    ensures { Grows (flat_below (map_of map.now) table.now.horizon.0)
         view.old result view.new }
 {
-    let count = table[COUNT] as usize;
-    let mut i: usize = 0;
-    while i < count {
-        let p = piece_at(table, i);
-        let stop = nearer(p.end, horizon(table));
-        let backing = backing_of(map, p.region);
-        let first = p.first;
-        let offset = p.offset;
+    for piece in table.pieces() {
+        let stop = nearer(piece.end, table.horizon());
+        let backing = backing_of(map, piece.region);
         let range = FlatRange {
-            first,
+            first: piece.first,
             last: last_before(stop),
-            region: p.region,
-            offset,
+            region: piece.region,
+            offset: piece.offset,
             kind: backing.kind,
             base: backing.base,
         };
-        if push_range(view, range) {
-            return true;
-        }
-        i += 1;
+        push_range(view, range)?;
     }
-    false
+    Ok(())
 }
 
 // The addresses that the root has end at its size: they are its offsets.
@@ -143,8 +130,8 @@ fn root_end(size: u64) -> GuestAddress
     GuestAddress(size)
 }
 
-// The ranges of all addresses of the root, laid into an empty view. Is it full, since there are more than 256?
-pub fn sweep(map: &[u64], view: &mut [u64]) -> bool
+// The ranges of all addresses of the root, laid into an empty view.
+pub fn sweep(map: &[u64], view: &mut [u64]) -> Result<(), TooManyRanges>
     requires tree { Tree map.now × (0 < (map_of map.now).count) }
     requires view_len { (length view.old ≡ view_length) × (view_of view.old ≡ view_holding []) }
     ensures { Grows (flat_list (map_of map.now)) view.old result view.new }
@@ -152,10 +139,11 @@ pub fn sweep(map: &[u64], view: &mut [u64]) -> bool
     let root = region_count(map) - 1;
     let region = region_at(map, root);
     let end = root_end(region.size);
-    let mut table = [0u64; WORDS];
+    let mut table = PieceTable::new();
     let mut at = GuestAddress(0);
+    // A table after a table: up to where one is whole is known when it is filled.
     while at.0 < end.0 {
-        begin(&mut table, at, end);
+        table.begin(at, end);
         let offset = root_offset(at);
         render(
             map,
@@ -167,10 +155,8 @@ pub fn sweep(map: &[u64], view: &mut [u64]) -> bool
                 offset,
             },
         );
-        if emit(map, view, &table) {
-            return true;
-        }
-        at = horizon(&table);
+        emit(map, view, &table)?;
+        at = table.horizon();
     }
-    false
+    Ok(())
 }

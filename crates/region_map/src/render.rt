@@ -8,14 +8,14 @@ ghost use Rattle.region_map.specs.Pieces.{seen, SpanFits, Behind};
 ghost use Rattle.map_records.specs.Limits.{limit};
 
 use crate::children::{RANKS, next_child};
-use crate::pieces::{AddressSpan, fill, horizon};
-use map_records::map::{ALIAS, CONTAINER, GuestAddress, REGIONS, RegionOffset};
-use map_records::numbers::least;
+use crate::pieces::{AddressSpan, PieceTable};
+use map_records::kind::Kind;
+use map_records::map::{GuestAddress, REGIONS, RegionOffset};
 use map_records::words::region_at;
 
 // Region n in a span.
 #[cycle(render_render_children)]
-pub fn render(map: &[u64], table: &mut [u64], n: usize, at: AddressSpan)
+pub fn render(map: &[u64], table: &mut PieceTable, n: usize, at: AddressSpan)
     requires in_tree { InTree map.now n }
     requires span_fits { SpanFits table.old at }
     ensures { Behind table.old (seen (walk_of (map_of map.now) n) at) table.new }
@@ -27,12 +27,11 @@ pub fn render(map: &[u64], table: &mut [u64], n: usize, at: AddressSpan)
     if (at.end.0 <= first.0) | (size <= offset.0) {
         return;
     }
-    let whole = horizon(table);
-    if whole.0 <= first.0 {
+    if table.horizon().0 <= first.0 {
         return;
     }
-    let end = GuestAddress(first.0 + least(at.end.0 - first.0, size - offset.0));
-    if region.kind == ALIAS {
+    let end = GuestAddress(first.0 + (at.end.0 - first.0).min(size - offset.0));
+    if region.has_kind(Kind::Alias) {
         let offset = RegionOffset(offset.0 + region.alias_offset);
         render(
             map,
@@ -47,22 +46,19 @@ pub fn render(map: &[u64], table: &mut [u64], n: usize, at: AddressSpan)
 
 // The children of n whose ranks are below `below`, highest first, and then n itself.
 #[cycle(render_render_children)]
-fn render_children(map: &[u64], table: &mut [u64], n: usize, at: AddressSpan, below: usize)
+fn render_children(map: &[u64], table: &mut PieceTable, n: usize, at: AddressSpan, below: usize)
     requires in_tree { InTree map.now n × (below ≤ ranks) }
     requires span_fits { SpanFits table.old at × (at.first.0 ≤ at.end.0) × (at.offset.0 ≤ limit) }
     ensures { Behind table.old
         (seen (tried_in (map_of map.now) n below) at) table.new }
 {
-    let next = next_child(map, n, below);
-    if next == 0 {
-        let region = region_at(map, n);
-        if region.kind != CONTAINER {
-            fill(table, n, at);
+    let Some(next) = next_child(map, n, below) else {
+        if !region_at(map, n).has_kind(Kind::Container) {
+            table.fill(n, at);
         }
         return;
-    }
-    let left = next - 1;
-    let c = left % REGIONS;
+    };
+    let c = next % REGIONS;
     let child = region_at(map, c);
     let begins = child.offset;
     let end = at.end;
@@ -78,5 +74,5 @@ fn render_children(map: &[u64], table: &mut [u64], n: usize, at: AddressSpan, be
             render(map, table, c, AddressSpan { first, end, offset });
         }
     }
-    render_children(map, table, n, at, left);
+    render_children(map, table, n, at, next);
 }

@@ -6,22 +6,22 @@ ghost use Rattle.map_records.specs.Words.{map_of};
 ghost use Rattle.region_map.specs.Promises.{InTree, tried_in};
 
 use crate::children::{RANKS, next_child};
-use crate::resolve::Resolved;
-use map_records::map::{ALIAS, CONTAINER, REGIONS, RegionOffset};
+use map_records::kind::Kind;
+use map_records::map::{Found, REGIONS, RegionOffset};
 use map_records::words::region_at;
 
 // Region n at an offset inside it.
 #[cycle(walk_walk_children)]
-pub fn walk(map: &[u64], n: usize, at: RegionOffset) -> Resolved
+pub fn walk(map: &[u64], n: usize, at: RegionOffset) -> Option<Found>
     requires { InTree map.now n }
     ensures { result ≡ walk_of (map_of map.now) n at.0 }
 {
     let a = at.0;
     let region = region_at(map, n);
     if region.size <= a {
-        return Resolved::Nothing;
+        return None;
     }
-    if region.kind == ALIAS {
+    if region.has_kind(Kind::Alias) {
         return walk(map, region.target, RegionOffset(a + region.alias_offset));
     }
     walk_children(map, n, at, RANKS)
@@ -29,28 +29,28 @@ pub fn walk(map: &[u64], n: usize, at: RegionOffset) -> Resolved
 
 // The children of n whose ranks are below `below`, highest first, and then n itself.
 #[cycle(walk_walk_children)]
-fn walk_children(map: &[u64], n: usize, at: RegionOffset, below: usize) -> Resolved
+fn walk_children(map: &[u64], n: usize, at: RegionOffset, below: usize) -> Option<Found>
     requires { InTree map.now n × (below ≤ ranks) }
     ensures { result ≡ tried_in (map_of map.now) n below at.0 }
 {
-    let next = next_child(map, n, below);
-    if next == 0 {
-        let region = region_at(map, n);
-        if region.kind == CONTAINER {
-            return Resolved::Nothing;
+    let Some(next) = next_child(map, n, below) else {
+        if region_at(map, n).has_kind(Kind::Container) {
+            return None;
         }
-        return Resolved::At(n, at);
-    }
-    let left = next - 1;
-    let c = left % REGIONS;
+        return Some(Found {
+            region: n,
+            offset: at,
+        });
+    };
+    let c = next % REGIONS;
     let a = at.0;
     let child = region_at(map, c);
     if a < child.offset {
-        return walk_children(map, n, at, left);
+        return walk_children(map, n, at, next);
     }
     let answer = walk(map, c, RegionOffset(a - child.offset));
     match answer {
-        Resolved::At(_, _) => answer,
-        Resolved::Nothing => walk_children(map, n, at, left),
+        Some(_) => answer,
+        None => walk_children(map, n, at, next),
     }
 }

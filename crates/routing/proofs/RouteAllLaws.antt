@@ -6,10 +6,14 @@ use Prim.Native.Nat.{ℕ, zero, suc, ◌+◌, ◌-◌, ◌*◌, ◌/◌, ◌%◌
 use native.Mathlib.Numerals.{add-one}
 use native.Mathlib.Omega.{arith}
 use lib.Dec.{eqb}
-use lib.ListN.{replicate, length, get_or, length-append}
+use lib.ListN.{replicate, length, get_or, drop, length-append}
+use Rattle.std.specs.Simd.{first_chunks}
+use Rattle.std.proofs.lemmas.List.{get_or-drop}
+use lib.Seq.{get_or-take}
+use native.Mathlib.Nat.{suc-mul}
 use lib.Seq.{sets}
 use borrow.Author.Tests.{eqb-true, eqb-false, eq-eqb, ne_eqb}
-use Rattle.map_check.proofs.Bools.{and_fst, and_snd, and_true, and_off}
+use Rattle.map_check.proofs.Bools.{never, and_fst, and_snd, and_true, and_off}
 use Rattle.map_records.specs.View.{entries}
 use Rattle.map_records.specs.declared.view.FlatView.{FlatView}
 use Rattle.device_words.specs.Device.{MemoryDevice, device_ok, plugged_in}
@@ -18,7 +22,14 @@ use Rattle.device_words.proofs.DeviceWords.{device_at_lem, plugged_length}
 use Rattle.device_words.proofs.RuleLaws.{device_valid}
 use Rattle.guest_view.specs.Guest.{leaf_at}
 use Rattle.guest_view.specs.View.{view_ok, no_region_bound}
-use Rattle.routing.specs.Route.{Routed, refused, to_memory, to_port, routed, routed_with, routed_without, answer_words, answers_to, answers_fit, all_routed, all_with, all_without}
+use Rattle.routing.specs.Route.{Routed, refused, to_memory, to_port, routed, routed_with, routed_without, answer_words, answers_to, answers_fit, all_routed, routed_given, all_given, routed_by, fault_number, all_number}
+use Rattle.routing.specs.Promises.{given_ok}
+use Rattle.std.specs.Prelude.{Option, None, Some, Result, Ok, Err}
+use Rattle.std.specs.Result.{IsErr, IsErrAnd}
+use Rattle.map_check.specs.declared.answer.RecordFault.{RecordFault}
+use Rattle.routing.specs.declared.answer.Route.{Route}
+use Rattle.routing.specs.declared.answer.RouteFault.{RouteFault}
+use Rattle.routing.specs.declared.answer.RouteFault.TheVariants.{Record}
 use Rattle.map_records.proofs.StoreLaws.{sets_append, over}
 use Rattle.routing.proofs.RouteLaws.{nothing_plugged}
 
@@ -47,8 +58,22 @@ module _ (accesses answers : List ℕ) where
       let y = eqb (length answers) (2 * length accesses) in
       omega (arith, eqb-true (length accesses % 2) 0 (and_fst x y e), eqb-true (length answers) (2 * length accesses) (and_snd x y e))
 
+-- ---- the accesses two by two
+chunk_at : (n k : ℕ) (xs : List ℕ) (i j : ℕ) (d : List ℕ) → i < k → j < n → get_or (get_or (first_chunks n k xs) i d) j 0 ≡ get_or xs (i * n + j) 0
+chunk_at n zero xs i j d h b = absurd (omega arith)
+chunk_at n (suc k) xs zero j d h b = get_or-take n xs j 0 b ∙ ap (λ (z : ℕ). get_or xs z 0) (omega arith)
+chunk_at n (suc k) xs (suc i) j d h b =
+    chunk_at n k (drop n xs) i j d (omega arith) b ∙ get_or-drop n xs (i * n + j) 0 ∙ ap (λ (z : ℕ). get_or xs z 0) (let e : n + (i * n + j) ≡ suc i * n + j = omega (arith, suc-mul i n) in e)
+
+module _ (k : ℕ) (xs : List ℕ) {pairs : List (List ℕ)} (same : pairs ≡ first_chunks 2 k xs) (i : ℕ) (d : List ℕ) (h : i < k) where
+  pub pair_first : get_or (get_or pairs i d) 0 0 ≡ get_or xs (2 * i) 0
+  pair_first = rw same (chunk_at 2 k xs i 0 d h (omega arith) ∙ ap (λ (z : ℕ). get_or xs z 0) (let z : i * 2 + 0 ≡ 2 * i = omega arith in z))
+
+  pub pair_second : get_or (get_or pairs i d) 1 0 ≡ get_or xs (2 * i + 1) 0
+  pair_second = rw same (chunk_at 2 k xs i 1 d h (omega arith) ∙ ap (λ (z : ℕ). get_or xs z 0) (let z : i * 2 + 1 ≡ 2 * i + 1 = omega arith in z))
+
 -- ---- the answers in turn
-answer_length : (r : Routed) → length (answer_words r) ≡ 4
+pub answer_length : (r : Routed) → length (answer_words r) ≡ 4
 answer_length (refused n) = refl
 answer_length (to_memory p) = refl
 answer_length (to_port p o) = refl
@@ -117,42 +142,40 @@ module _ (v : FlatView) (memory : ℕ) (d : MemoryDevice) where
   pub view_off : view_ok v memory d.region_size ≡ false → (view_ok v memory d.region_size && device_ok d) ≡ false
   view_off p = ap (λ (x : Bool). x && device_ok d) p
 
-  -- the view or what goes with it was refused, before the device is asked
-  pub one_off : (fit : Bool) → (view_ok v memory d.region_size && fit) ≡ false → ((view_ok v memory d.region_size && device_ok d) && fit) ≡ false
-  one_off fit = go (view_ok v memory d.region_size) (device_ok d)
-    where
-      go : (x y : Bool) → (x && fit) ≡ false → ((x && y) && fit) ≡ false
-      go true true e = e
-      go true false e = refl
-      go false y e = refl
-
-  pub refused_with : (view_ok v memory d.region_size && device_ok d) ≡ false → (a w : ℕ) → refused 27 ≡ routed_with v memory d a w
+  pub judged_with : (block : ℕ) (table : List ℕ) → block ≡ d.block_size → table ≡ d.plugged → (view_ok v memory d.region_size && device_ok d) ≡ true
+      → routed_with v memory d ≡ routed (leaf_at (entries v)) (plugged_in block table)
   unfolding routed_with
-  refused_with e a w = rw e
-
-  module _ (block : ℕ) (table : List ℕ) (is : block ≡ d.block_size) (holds : table ≡ d.plugged) (ok : (view_ok v memory d.region_size && device_ok d) ≡ true) where
-    pub judged_with : routed_with v memory d ≡ routed (leaf_at (entries v)) (plugged_in block table)
-    unfolding routed_with
-    judged_with = fun_ext (λ a. fun_ext (λ w. rw (ok, is, holds)))
-
-    pub answered_with : (accesses answers : List ℕ) → answers_fit accesses answers ≡ true
-        → all_with v memory d accesses answers ≡ record { number = 0; answers = answers_to (routed (leaf_at (entries v)) (plugged_in block table)) accesses 0 (length accesses / 2) }
-    answered_with accesses answers fit =
-        let both = view_ok v memory d.region_size && device_ok d in
-        all_answered both (routed_with v memory d) accesses answers (and_true both (answers_fit accesses answers) ok fit) (routed (leaf_at (entries v)) (plugged_in block table)) judged_with
+  judged_with block table is holds ok = fun_ext (λ a. fun_ext (λ w. rw (ok, is, holds)))
 
 module _ (v : FlatView) (memory : ℕ) where
-  pub refused_without : view_ok v memory no_region_bound ≡ false → (a w : ℕ) → refused 27 ≡ routed_without v memory a w
-  unfolding routed_without
-  refused_without e a w = rw e
-
   pub judged_without : (block : ℕ) → view_ok v memory no_region_bound ≡ true → routed_without v memory ≡ routed (leaf_at (entries v)) (plugged_in block (replicate 16 0))
   unfolding routed_without
   judged_without block e = fun_ext (λ a. fun_ext (λ w. rw (e, nothing_plugged block)))
 
-  pub answered_without : (block : ℕ) (accesses answers : List ℕ) → (view_ok v memory no_region_bound && answers_fit accesses answers) ≡ true
-      → all_without v memory accesses answers ≡ record { number = 0; answers = answers_to (routed (leaf_at (entries v)) (plugged_in block (replicate 16 0))) accesses 0 (length accesses / 2) }
-  answered_without block accesses answers e =
-      let ok = view_ok v memory no_region_bound in
-      all_answered ok (routed_without v memory) accesses answers e (routed (leaf_at (entries v)) (plugged_in block (replicate 16 0)))
-      (judged_without block (and_fst ok (answers_fit accesses answers) e))
+  -- an access is refused with 27
+  pub refused_given : (d : Option MemoryDevice) → given_ok v memory d ≡ false → (a w : ℕ) → refused 27 ≡ routed_given v memory d a w
+  unfolding routed_with routed_without
+  refused_given None e a w = rw e
+  refused_given (Some d) e a w = rw e
+
+  -- many accesses are refused, or each is answered
+  module _ (accesses answers : List ℕ) where
+    all_by : (d : Option MemoryDevice) → all_given v memory d accesses answers ≡ all_routed (given_ok v memory d) (routed_given v memory d) accesses answers
+    all_by None = refl
+    all_by (Some d) = refl
+
+    pub given_refused : (d : Option MemoryDevice) → (given_ok v memory d && answers_fit accesses answers) ≡ false → all_given v memory d accesses answers ≡ record { number = 27; answers = answers }
+    given_refused d e = all_by d ∙ all_refused (given_ok v memory d) (routed_given v memory d) accesses answers e
+
+    pub given_answered : (d : Option MemoryDevice) → given_ok v memory d ≡ true → answers_fit accesses answers ≡ true → (g : ℕ → ℕ → Routed) → routed_given v memory d ≡ g
+        → all_given v memory d accesses answers ≡ record { number = 0; answers = answers_to g accesses 0 (length accesses / 2) }
+    given_answered d ok fit g s = all_by d ∙ all_answered (given_ok v memory d) (routed_given v memory d) accesses answers (and_true (given_ok v memory d) (answers_fit accesses answers) ok fit) g s
+
+-- ---- what a `?` after judging the records returns
+pub record_given : (r : Result Route RouteFault) → IsErrAnd r (λ e. e ≡ Record) → routed_by r ≡ refused 27
+record_given (Err e) h = ap (λ (f : RouteFault). refused (fault_number f)) h
+record_given (Ok a) h = absurd h
+
+pub record_counts : (r : Result Unit RecordFault) → IsErr r → all_number r ≡ 27
+record_counts (Err e) h = refl
+record_counts (Ok a) h = absurd (never (sym h))

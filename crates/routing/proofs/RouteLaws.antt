@@ -16,8 +16,8 @@ use Rattle.map_records.specs.View.{entries, no_range}
 use Rattle.map_records.specs.View.{range_of}
 use Rattle.map_check.specs.Reply.{plain}
 use Rattle.region_map.specs.Resolve as look
-use Rattle.region_map.specs.declared.resolve.Resolved.{Resolved}
-use Rattle.region_map.specs.declared.resolve.Resolved.TheVariants as resolved
+use Rattle.std.specs.Prelude.{Option, None, Some}
+use Rattle.map_records.specs.declared.map.Found.{Found}
 use Rattle.map_records.specs.declared.view.FlatRange.{FlatRange}
 use Rattle.map_records.specs.declared.view.FlatView.{FlatView}
 use Rattle.map_check.proofs.Bools.{never, and_fst, and_snd, or_left, or_right}
@@ -36,9 +36,9 @@ use Rattle.guest_view.proofs.ReachLaws.{same_block}
 
 -- ---- what a list gives an address, without the region's values
 
-abbrev pub forget : Leaf → Resolved
-forget nowhere = resolved.Nothing
-forget (leaf n kind base o) = resolved.At n (record { 0 = o })
+abbrev pub forget : Leaf → Option Found
+forget nowhere = None
+forget (leaf n kind base o) = Some (record { region = n; offset = record { 0 = o } })
 
 pub lookup_leaf : (l : List FlatRange) (a : ℕ) → lookup l a ≡ forget (leaf_at l a)
 lookup_leaf l a = read_off nowhere leaf_in forget range_answer l a (λ k h. refl)
@@ -49,11 +49,11 @@ module _ (v : FlatView) (memory a : ℕ) where
   looked_record e = rw e
 
   module _ (ok : view_ok v memory no_region_bound ≡ true) (r : ℕ) (s : Spot v a r) where
-    pub looked_at : r < v.count → looked_up v memory a ≡ look.leads (resolved.At (range_of v r).region (record { 0 = (range_of v r).offset.0 + (a - (range_of v r).first.0) }))
+    pub looked_at : r < v.count → looked_up v memory a ≡ look.leads (Some (record { region = (range_of v r).region; offset = record { 0 = (range_of v r).offset.0 + (a - (range_of v r).first.0) } }))
     unfolding looked_up
     looked_at h = rw (ok, lookup_leaf (entries v) a, s.found h)
 
-    pub looked_nothing : v.count ≤ r → looked_up v memory a ≡ look.leads resolved.Nothing
+    pub looked_nothing : v.count ≤ r → looked_up v memory a ≡ look.leads None
     unfolding looked_up
     looked_nothing h = rw (ok, lookup_leaf (entries v) a, s.missed h)
 

@@ -1,16 +1,19 @@
 -- Routing of guest accesses, one and many: 23 to 26, and 27 first. Assumes nothing: these are definitions.
-use Rattle.std.specs.Prelude.{Bool, true, false, cond, ◌&&◌, ◌||◌, not, List, [], ◌∷◌, ◌++◌, ◌≡◌, ℕ, zero, suc, ◌+◌, ◌*◌, ◌/◌, ◌%◌, eqb, length, get_or}
+use Rattle.std.specs.Prelude.{Bool, true, false, cond, ◌&&◌, ◌||◌, not, List, [], ◌∷◌, ◌++◌, ◌≡◌, Option, None, Some, Result, Ok, Err, ℕ, zero, suc, ◌+◌, ◌*◌, ◌/◌, ◌%◌, eqb, length, get_or}
 use Rattle.map_records.specs.Map.{mmio, managed, has_memory}
 use Rattle.map_records.specs.View.{entries}
-use Rattle.map_check.specs.Reply.{Reply, accepted, plain}
+use Rattle.map_check.specs.Reply.{Reply, accepted, plain, number_of, reply_by}
 use Rattle.map_records.specs.Refusal as refusal
 use Rattle.map_records.specs.declared.view.FlatView.{FlatView}
 use Rattle.device_words.specs.Table.{all_below}
 use Rattle.device_words.specs.Device.{MemoryDevice, device_ok, plugged_at}
 use Rattle.guest_view.specs.Guest.{Leaf, nowhere, leaf, leaf_at, place_of}
 use Rattle.guest_view.specs.View.{view_ok, no_region_bound}
-use Rattle.routing.specs.declared.route.RouteAnswer.{RouteAnswer}
-use Rattle.routing.specs.declared.route.RouteAnswer.TheVariants as answer
+use Rattle.map_check.specs.declared.answer.RecordFault.{RecordFault}
+use Rattle.routing.specs.declared.answer.Route.{Route}
+use Rattle.routing.specs.declared.answer.Route.TheVariants.{Memory, Port}
+use Rattle.routing.specs.declared.answer.RouteFault.{RouteFault}
+use Rattle.routing.specs.declared.answer.RouteFault.TheVariants as fault
 
 -- What an access is answered: a refusal's number, a memory place, or a port and the offset in its region.
 pub data Routed : Type 0 where
@@ -18,11 +21,22 @@ pub data Routed : Type 0 where
   to_memory : ℕ → Routed
   to_port : ℕ → ℕ → Routed
 
+-- document 01's number for each refusal of an access
+abbrev pub fault_number : RouteFault → ℕ
+fault_number fault.Width = refusal.WIDTH
+fault_number fault.Hole = refusal.HOLE
+fault_number fault.Split = refusal.SPLIT
+fault_number fault.Unplugged = refusal.UNPLUGGED
+fault_number fault.Record = refusal.RECORD
+
+abbrev pub fault_reply : RouteFault → Reply
+fault_reply f = plain (fault_number f)
+
 -- document 01's answer for each answer of the code
-abbrev pub routed_by : RouteAnswer → Routed
-routed_by (answer.Refused n) = refused n
-routed_by (answer.Memory p) = to_memory p
-routed_by (answer.Port p o) = to_port p o.0
+abbrev pub routed_by : Result Route RouteFault → Routed
+routed_by (Ok (Memory p)) = to_memory p
+routed_by (Ok (Port p o)) = to_port p o.0
+routed_by (Err f) = refused (fault_number f)
 
 -- document 01's number
 abbrev pub route_reply : Routed → Reply
@@ -75,6 +89,11 @@ routed_with v memory d a w =
 unfoldable pub routed_without : FlatView → ℕ → ℕ → ℕ → Routed
 routed_without v memory a w = cond (view_ok v memory no_region_bound) (routed (leaf_at (entries v)) (λ o. false) a w) (refused refusal.RECORD)
 
+-- with a device or without one
+abbrev pub routed_given : FlatView → ℕ → Option MemoryDevice → ℕ → ℕ → Routed
+routed_given v memory None = routed_without v memory
+routed_given v memory (Some d) = routed_with v memory d
+
 -- Many accesses at once, each of two words: its address and its width. An answer is four words: document 01's number, or 0 and then 1 and the memory place, or 2, the port and the offset.
 abbrev pub answer_words : Routed → List ℕ
 answer_words (refused n) = n ∷ 0 ∷ 0 ∷ 0 ∷ []
@@ -111,6 +130,14 @@ all_with v memory d = all_routed (view_ok v memory d.region_size && device_ok d)
 
 abbrev pub all_without : FlatView → ℕ → List ℕ → List ℕ → RoutedAll
 all_without v memory = all_routed (view_ok v memory no_region_bound) (routed_without v memory)
+
+abbrev pub all_given : FlatView → ℕ → Option MemoryDevice → List ℕ → List ℕ → RoutedAll
+all_given v memory None = all_without v memory
+all_given v memory (Some d) = all_with v memory d
+
+-- document 01's number for each answer of the code over many accesses
+abbrev pub all_number : Result Unit RecordFault → ℕ
+all_number r = number_of (reply_by (λ _. plain refusal.RECORD) r)
 
 -- the number n, and x left in the words of the answers, are what c says
 abbrev pub RoutesAll : RoutedAll → ℕ → List ℕ → Type 0

@@ -1,17 +1,17 @@
 // Routing of guest accesses, one and many.
-ghost use Rattle.std.specs.Prelude.{◌≡◌, true, [], ◌∷◌, ◌+◌, ◌*◌, ◌≤◌, ◌<◌, length};
+ghost use Rattle.std.specs.Prelude.{◌≡◌, true, [], ◌∷◌, option_map, ◌+◌, ◌*◌, ◌≤◌, ◌<◌, length};
 ghost use Rattle.std.proofs.lemmas.List.Edits.{sets};
-ghost use Rattle.map_check.specs.Reply.{number_of};
 ghost use Rattle.device_words.specs.Table.{all_below, table_length};
 ghost use Rattle.device_words.specs.Device.{plugged_in};
 ghost use Rattle.device_words.specs.Words.{device_of};
 ghost use Rattle.map_records.specs.Words.{view_of};
-ghost use Rattle.guest_view.specs.Promises.{Judged, Spot};
-ghost use Rattle.routing.specs.Route.{width_ok, routed_by, routed_with, routed_without, route_reply};
-ghost use Rattle.routing.specs.Route.{answer_words, answers_of, answers_fit, all_with, all_without, RoutesAll};
-ghost use Rattle.routing.specs.Promises.{is_whole, routed_in};
 ghost use Rattle.map_records.specs.Limits.{limit};
+ghost use Rattle.guest_view.specs.Promises.{Judged, Spot};
+ghost use Rattle.routing.specs.Route.{width_ok, routed_by, routed_given, all_given, all_number, RoutesAll};
+ghost use Rattle.routing.specs.Route.{answer_words, answers_of, answers_fit};
+ghost use Rattle.routing.specs.Promises.{is_whole, routed_in, Asked};
 
+use crate::answer::{Route, RouteFault};
 use crate::view::NO_REGION;
 use device_words::rules::device_ok;
 use device_words::table::TABLE_WORDS;
@@ -20,19 +20,21 @@ use guest_view::find::near;
 use guest_view::place::{offset_in, place_of};
 use guest_view::reach::byte_plugged;
 use guest_view::rules::view_ok;
-use map_records::map::{GuestAddress, MANAGED, MMIO, RegionOffset, has_memory};
-use map_records::refusal;
+use map_check::answer::{Fault, RecordFault};
+use map_records::kind::Kind;
+use map_records::map::{GuestAddress, RegionOffset};
 use map_records::words::{count_of, range_at};
 
 // Given no device, no block is plugged: a table of zeros, over blocks of any size.
 const ANY_BLOCK_SIZE: u64 = 4096;
 
-// A refusal's number, a memory place, or a port and the offset in its region.
+static NONE_PLUGGED: [u64; TABLE_WORDS] = [0; TABLE_WORDS];
+
+// The managed region's blocks: the size of each, and the table of those that are plugged.
 #[derive(Clone, Copy)]
-pub enum RouteAnswer {
-    Refused(u64),
-    Memory(u64),
-    Port(u64, RegionOffset),
+struct Blocks<'a> {
+    size: u64,
+    plugged: &'a [u64],
 }
 
 fn width_ok(w: u64) -> bool
@@ -50,8 +52,7 @@ fn bytes_follow(view: &[u64], at: usize, a: GuestAddress, w: u64) -> bool
 {
     let range = range_at(view, at);
     let offset = offset_in(range, a);
-    let mut i: u64 = 1;
-    while i < w {
+    for i in 1..w {
         let b = GuestAddress(a.0 + i);
         let here = near(view, at, b);
         if count_of(view) <= here {
@@ -62,7 +63,6 @@ fn bytes_follow(view: &[u64], at: usize, a: GuestAddress, w: u64) -> bool
         if !((other.region == range.region) & (there.0 == offset.0 + i)) {
             return false;
         }
-        i += 1;
     }
     true
 }
@@ -100,98 +100,89 @@ fn blocks_plugged(block: u64, plugged: &[u64], offset: RegionOffset, w: u64) -> 
 // An access over a view that was judged, with what the search for its first byte gave.
 fn route_at(
     view: &[u64],
-    block: u64,
-    plugged: &[u64],
+    blocks: Blocks,
     at: usize,
     a: GuestAddress,
     w: u64,
-) -> RouteAnswer
+) -> Result<Route, RouteFault>
     requires judged { Judged view.now }
-    requires le_block { (8 ≤ block) × (length plugged.now ≡ table_length) }
+    requires le_block { (8 ≤ blocks.size) × (length blocks.plugged.now ≡ table_length) }
     requires spot { Spot (view_of view.now) a.0 at }
-    ensures { routed_by result ≡ routed_in view.now block plugged.now a.0 w }
+    ensures { routed_by result
+        ≡ routed_in view.now blocks.entry.size blocks.entry.plugged.now a.0 w }
 {
     if !width_ok(w) {
-        return RouteAnswer::Refused(refusal::WIDTH);
+        return Err(RouteFault::Width);
     }
     if count_of(view) <= at {
-        return RouteAnswer::Refused(refusal::HOLE);
+        return Err(RouteFault::Hole);
     }
     if !is_whole(view, at, a, w) {
-        return RouteAnswer::Refused(refusal::SPLIT);
+        return Err(RouteFault::Split);
     }
     let range = range_at(view, at);
     let offset = offset_in(range, a);
-    if range.kind == MANAGED {
-        if !blocks_plugged(block, plugged, offset, w) {
-            return RouteAnswer::Refused(refusal::UNPLUGGED);
+    if range.has_kind(Kind::Managed) {
+        if !blocks_plugged(blocks.size, blocks.plugged, offset, w) {
+            return Err(RouteFault::Unplugged);
         }
     }
-    if has_memory(range.kind) {
+    if range.has_kind(Kind::Ram) | range.has_kind(Kind::Managed) {
         let place = place_of(range.base, offset);
-        return RouteAnswer::Memory(place);
+        return Ok(Route::Memory(place));
     }
-    if range.kind == MMIO {
-        return RouteAnswer::Port(range.base, offset);
+    if range.has_kind(Kind::Mmio) {
+        return Ok(Route::Port(range.base, offset));
     }
     // 27 has refused a view with any other kind.
-    RouteAnswer::Refused(refusal::RECORD)
+    Err(RouteFault::Record)
 }
 
-// One access over a view that was judged.
-fn route_judged(view: &[u64], block: u64, plugged: &[u64], a: GuestAddress, w: u64) -> RouteAnswer
-    requires judged { Judged view.now }
-    requires le_block { (8 ≤ block) × (length plugged.now ≡ table_length) }
-    ensures { routed_by result ≡ routed_in view.now block plugged.now a.0 w }
+// The blocks to ask, after 27. A slice of another length is no device's record, 27 too. Without a device every block
+// counts as unplugged, and 27 judges no region.
+fn judged_blocks<'a>(
+    view: &[u64],
+    memory_length: u64,
+    device: Option<&'a [u64]>,
+) -> Result<Blocks<'a>, RecordFault>
+    ensures { Asked view.now memory_length (option_map (λ d. device_of d.now) device.entry) result }
 {
-    let at = near(view, 0, a);
-    route_at(view, block, plugged, at, a, w)
+    let Some(device) = device else {
+        if !view_ok(view, memory_length, NO_REGION) {
+            return Err(RecordFault);
+        }
+        return Ok(Blocks {
+            size: ANY_BLOCK_SIZE,
+            plugged: &NONE_PLUGGED,
+        });
+    };
+    if !device_ok(device) {
+        return Err(RecordFault);
+    }
+    if !view_ok(view, memory_length, region_size(device)) {
+        return Err(RecordFault);
+    }
+    Ok(Blocks {
+        size: block_size(device),
+        plugged: plugged(device),
+    })
 }
 
-// An access with a device. A slice of another length is no device, 27.
+// An access with a device or without one.
 pub fn route(
     view: &[u64],
     memory_length: u64,
-    device: &[u64],
+    device: Option<&[u64]>,
     address: GuestAddress,
     width: u64,
-) -> RouteAnswer
+) -> Result<Route, RouteFault>
     ensures { routed_by result
-        ≡ routed_with (view_of view.now) memory_length (device_of device.now) address.0 width }
+        ≡ routed_given (view_of view.now) memory_length
+        (option_map (λ d. device_of d.now) device.entry) address.0 width }
 {
-    if device_ok(device) {
-        if view_ok(view, memory_length, region_size(device)) {
-            return route_judged(view, block_size(device), plugged(device), address, width);
-        }
-    }
-    RouteAnswer::Refused(refusal::RECORD)
-}
-
-// An access without one: every block counts as unplugged, and 27 judges no region.
-pub fn route_without_device(
-    view: &[u64],
-    memory_length: u64,
-    address: GuestAddress,
-    width: u64,
-) -> RouteAnswer
-    ensures { routed_by result ≡ routed_without (view_of view.now) memory_length address.0 width }
-{
-    if view_ok(view, memory_length, NO_REGION) {
-        let table = [0u64; TABLE_WORDS];
-        return route_judged(view, ANY_BLOCK_SIZE, &table, address, width);
-    }
-    RouteAnswer::Refused(refusal::RECORD)
-}
-
-// Document 01's number of the refusal, and 0 where the access is routed.
-pub fn number_of(answer: RouteAnswer) -> u64
-    ensures { result ≡ number_of (route_reply (routed_by answer)) }
-{
-    match answer {
-        RouteAnswer::Refused(n) => n,
-        RouteAnswer::Memory(_) => 0,
-        RouteAnswer::Port(_, _) => 0,
-    }
+    let blocks = judged_blocks(view, memory_length, device)?;
+    let at = near(view, 0, address);
+    route_at(view, blocks, at, address, width)
 }
 
 fn put_four(words: &mut [u64], at: usize, a: u64, b: u64, c: u64, d: u64)
@@ -204,37 +195,35 @@ fn put_four(words: &mut [u64], at: usize, a: u64, b: u64, c: u64, d: u64)
     words[at + 3] = d;
 }
 
-// An answer's four words at the place of access i.
-fn put_answer(answers: &mut [u64], i: usize, answer: RouteAnswer)
+// An answer's four words at the place of access i. They are stored one by one: an array that is laid over them by
+// `copy_from_slice` adds 17 instructions to an access, and one that is taken apart adds 4.
+fn put_answer(answers: &mut [u64], i: usize, answer: Result<Route, RouteFault>)
     requires { 4 * i + 4 ≤ length answers.old }
     ensures { answers.new ≡ sets answers.old (4 * i) (answer_words (routed_by answer)) }
 {
     let at = 4 * i;
     match answer {
-        RouteAnswer::Refused(n) => put_four(answers, at, n, 0, 0, 0),
-        RouteAnswer::Memory(place) => put_four(answers, at, 0, 1, place, 0),
-        RouteAnswer::Port(port, offset) => put_four(answers, at, 0, 2, port, offset.0),
+        Ok(Route::Memory(place)) => put_four(answers, at, 0, 1, place, 0),
+        Ok(Route::Port(port, offset)) => put_four(answers, at, 0, 2, port, offset.0),
+        Err(fault) => put_four(answers, at, u64::from(fault.refusal().number()), 0, 0, 0),
     }
 }
 
 // Each access in turn, over a view that was judged. The range of the one before is tried first.
-fn routes_judged(view: &[u64], block: u64, plugged: &[u64], accesses: &[u64], answers: &mut [u64])
+fn routes_judged(view: &[u64], blocks: Blocks, accesses: &[u64], answers: &mut [u64])
     requires judged { Judged view.now }
-    requires le_block { (8 ≤ block) × (length plugged.now ≡ table_length) }
+    requires le_block { (8 ≤ blocks.size) × (length blocks.plugged.now ≡ table_length) }
     requires answers_value { answers_fit accesses.now answers.old ≡ true }
     ensures { answers.new
-        ≡ answers_of (routed_in view.now block plugged.now) accesses.now }
+        ≡ answers_of (routed_in view.now blocks.entry.size blocks.entry.plugged.now) accesses.now }
 {
-    let count = accesses.len() / 2;
+    let (pairs, _) = accesses.as_chunks::<2>();
     let mut at: usize = 0;
-    let mut i: usize = 0;
-    while i < count {
-        let a = GuestAddress(accesses[2 * i]);
-        let w = accesses[2 * i + 1];
+    for (i, access) in pairs.iter().enumerate() {
+        let a = GuestAddress(access[0]);
         at = near(view, at, a);
-        let answer = route_at(view, block, plugged, at, a, w);
+        let answer = route_at(view, blocks, at, a, access[1]);
         put_answer(answers, i, answer);
-        i += 1;
     }
 }
 
@@ -245,45 +234,23 @@ fn answers_fit(accesses: &[u64], answers: &[u64]) -> bool
     (accesses.len() % 2 == 0) & (answers.len() % 2 == 0) & (answers.len() / 2 == accesses.len())
 }
 
-// Many accesses with a device, for which the records are judged once.
+// Many accesses, for which the records are judged once. Words that do not fit are 27.
 pub fn route_all(
     view: &[u64],
     memory_length: u64,
-    device: &[u64],
+    device: Option<&[u64]>,
     accesses: &[u64],
     answers: &mut [u64],
-) -> u64
+) -> Result<(), RecordFault>
     ensures { RoutesAll
-        (all_with (view_of view.now) memory_length (device_of device.now)
-        accesses.now answers.old)
-        result answers.new }
+        (all_given (view_of view.now) memory_length
+        (option_map (λ d. device_of d.now) device.entry) accesses.now answers.old)
+        (all_number result) answers.new }
 {
-    if device_ok(device) {
-        let ok = view_ok(view, memory_length, region_size(device));
-        if ok & answers_fit(accesses, answers) {
-            routes_judged(view, block_size(device), plugged(device), accesses, answers);
-            return 0;
-        }
+    let blocks = judged_blocks(view, memory_length, device)?;
+    if !answers_fit(accesses, answers) {
+        return Err(RecordFault);
     }
-    refusal::RECORD
-}
-
-// Many accesses without one.
-pub fn route_all_without_device(
-    view: &[u64],
-    memory_length: u64,
-    accesses: &[u64],
-    answers: &mut [u64],
-) -> u64
-    ensures { RoutesAll
-        (all_without (view_of view.now) memory_length accesses.now answers.old)
-        result answers.new }
-{
-    let ok = view_ok(view, memory_length, NO_REGION);
-    if ok & answers_fit(accesses, answers) {
-        let table = [0u64; TABLE_WORDS];
-        routes_judged(view, ANY_BLOCK_SIZE, &table, accesses, answers);
-        return 0;
-    }
-    refusal::RECORD
+    routes_judged(view, blocks, accesses, answers);
+    Ok(())
 }

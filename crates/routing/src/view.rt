@@ -6,34 +6,33 @@ ghost use Rattle.routing.specs.Look.{looked_up, looked_by};
 use guest_view::find::near;
 use guest_view::place::offset_in;
 use guest_view::rules::view_ok;
-use map_records::map::{GuestAddress, RegionOffset};
+use map_check::answer::RecordFault;
+use map_records::map::{Found, GuestAddress};
 use map_records::numbers::LIMIT;
 use map_records::view::RANGES;
 use map_records::words::{count_of, range_at};
 
-// The region and the offset in it that an address leads to, or nothing, or 27.
-#[derive(Clone, Copy)]
-pub enum LookUp {
-    At(usize, RegionOffset),
-    Nothing,
-    Record,
-}
-
 // Given no device, 27 judges no region: no offset reaches the limit.
 pub const NO_REGION: u64 = LIMIT;
 
-// What the view gives an address, by halving.
-pub fn look_up(view: &[u64], memory_length: u64, address: GuestAddress) -> LookUp
+// What the view gives an address, by halving: the region and the offset in it, or nothing, or 27.
+pub fn look_up(
+    view: &[u64],
+    memory_length: u64,
+    address: GuestAddress,
+) -> Result<Option<Found>, RecordFault>
     ensures { looked_by result ≡ looked_up (view_of view.now) memory_length address.0 }
 {
-    if view_ok(view, memory_length, NO_REGION) {
-        let at = near(view, RANGES, address);
-        if at < count_of(view) {
-            let range = range_at(view, at);
-            let offset = offset_in(range, address);
-            return LookUp::At(range.region, offset);
-        }
-        return LookUp::Nothing;
+    if !view_ok(view, memory_length, NO_REGION) {
+        return Err(RecordFault);
     }
-    LookUp::Record
+    let at = near(view, RANGES, address);
+    if count_of(view) <= at {
+        return Ok(None);
+    }
+    let range = range_at(view, at);
+    Ok(Some(Found {
+        region: range.region,
+        offset: offset_in(range, address),
+    }))
 }

@@ -3,6 +3,7 @@ use mathlib.Core.Path.{◌≡◌, refl, sym, ap, ◌∙◌, subst}
 use mathlib.Core.Bool.{Bool, true, false, cond}
 use mathlib.Core.List.{List}
 use Prim.Native.Nat.{ℕ, zero, suc}
+use native.Mathlib.Omega.{arith}
 use lib.Dec.{eqb, ltb}
 use lib.ListN.{length, length-replicate, length-set}
 use borrow.Author.Tests.{eq-eqb, ne_eqb}
@@ -12,26 +13,38 @@ use Rattle.map_records.specs.declared.map.RegionMap.{RegionMap}
 use Rattle.map_records.proofs.WordLaws.{words_map}
 use Rattle.map_check.specs.Reply.{Reply, accepted, nodes, place, plain, passes, number_of, Laid}
 use Rattle.map_check.specs.Check.{count_fault, judged, Accepted}
-use Rattle.map_check.proofs.Answers.{map_zero}
+use Rattle.map_check.proofs.Answers.{fault_form}
 use Rattle.map_check.proofs.Bools.{never}
-use Rattle.sheet.specs.Answer.{Read, got, refused, next, sheet_reply}
+use Rattle.std.specs.Prelude.{Result, Ok, Err}
+use Rattle.sheet.specs.Answer.{Read, got, refused, next, sheet_fault_reply, sheet_reply}
 use Rattle.sheet.specs.Number.{sheet_number}
 use Rattle.sheet.specs.Region.{sheet_region}
 use Rattle.sheet.specs.Sheet.{with_region, regions_from, map_at, SheetOutcome, sheet_refusal, checked, read_to_end, read_sheet, map_laid, read_into}
 use Rattle.map_records.specs.Limits.{is_map, map_length}
-use Rattle.sheet.specs.declared.answer.SheetAnswer.{SheetAnswer}
-use Rattle.sheet.specs.declared.answer.SheetAnswer.TheVariants.{Short, Number, Count, Kind, Tail, Record, Checked}
+use Rattle.sheet.specs.declared.answer.SheetFault.{SheetFault}
+use Rattle.sheet.specs.declared.answer.SheetFault.TheVariants as fault
 use Rattle.sheet.proofs.RefusalLaws.{number_not, regions_not}
 
 -- ---- a number is 0 where nothing is refused, and only there
-sheet_zero : (a : SheetAnswer) → eqb (number_of (sheet_reply a)) 0 ≡ passes (sheet_reply a)
-sheet_zero (Short p) = refl
-sheet_zero (Number p) = refl
-sheet_zero (Count p) = refl
-sheet_zero (Kind p) = refl
-sheet_zero (Tail p) = refl
-sheet_zero Record = refl
-sheet_zero (Checked a) = map_zero a
+sheet_zero : (a : Result Unit SheetFault) → eqb (number_of (sheet_reply a)) 0 ≡ passes (sheet_reply a)
+sheet_zero (Ok x) = refl
+sheet_zero (Err (fault.Short p)) = refl
+sheet_zero (Err (fault.Number p)) = refl
+sheet_zero (Err (fault.Count p)) = refl
+sheet_zero (Err (fault.Kind p)) = refl
+sheet_zero (Err (fault.Tail p)) = refl
+sheet_zero (Err fault.Record) = refl
+sheet_zero (Err (fault.Map f)) = fault_form (λ r. eqb (number_of r) 0 ≡ passes r) (λ k i j. ne_eqb (suc k) 0 (λ (e : suc k ≡ 0). omega arith)) f
+
+-- a fault is no acceptance
+pub fault_not : (f : SheetFault) → passes (sheet_fault_reply f) ≡ false
+fault_not (fault.Short p) = refl
+fault_not (fault.Number p) = refl
+fault_not (fault.Count p) = refl
+fault_not (fault.Kind p) = refl
+fault_not (fault.Tail p) = refl
+fault_not fault.Record = refl
+fault_not (fault.Map f) = fault_form (λ r. passes r ≡ false) (λ k i j. refl) f
 
 -- the number n that was answered for the reply r
 pub record Said (r : Reply) (n : ℕ) : Type 0 where
@@ -152,24 +165,32 @@ module _ (s : List ℕ) (memory : ℕ) (old : List ℕ) where
           (laid, subst (λ (m : RegionMap). Accepted m memory) (sym laid) (sheet_accepted s memory p))
       by false p = absurd (never (sym p))
 
--- ---- a sheet that was read into lent words, with the number that was answered
-pub record ReadAs (o : SheetOutcome) (n : ℕ) (words : List ℕ) : Type 0 where
-  pub said : Said o.reply n
-  pub map : n ≡ 0 → map_of words ≡ o.map
+-- ---- a sheet that was read into lent words, with the answer
+pub record ReadAs (o : SheetOutcome) (a : Result Unit SheetFault) (words : List ℕ) : Type 0 where
+  pub reply : sheet_reply a ≡ o.reply
+  pub map : {x : Unit} → a ≡ Ok x → map_of words ≡ o.map
 
-module _ (s : List ℕ) (memory : ℕ) (old words : List ℕ) (a : SheetAnswer) (n : ℕ) (size : length old ≡ map_length)
-    (e : sheet_reply a ≡ (read_into s memory old).reply) (w : words ≡ (read_into s memory old).words) (k : n ≡ number_of (sheet_reply a)) where
+module _ (s : List ℕ) (memory : ℕ) (old words : List ℕ) (a : Result Unit SheetFault) (size : length old ≡ map_length)
+    (e : sheet_reply a ≡ (read_into s memory old).reply) (w : words ≡ (read_into s memory old).words) where
   into_words : read_into s memory old ≡ map_laid (read_sheet s memory) old
   unfolding read_into
   into_words = rw (eq-eqb (length old) map_length size)
 
-  answered : Said (read_sheet s memory).reply n
-  answered = said (sheet_zero a) (e ∙ ap (λ (x : Laid). x.reply) into_words) k
-
-  pub read_as : ReadAs (read_sheet s memory) n words
+  pub read_as : ReadAs (read_sheet s memory) a words
   read_as =
       record {
-        said = answered;
-        map = λ z. ap map_of w
-            ∙ (made_map s memory old (ap (λ (x : Laid). passes x.reply) into_words ∙ answered.passed z)).0;
+        reply = e ∙ ap (λ (x : Laid). x.reply) into_words;
+        map = λ z. ap map_of w ∙ (made_map s memory old (ap passes (sym e ∙ ap sheet_reply z))).0;
       }
+
+-- and with the number that was answered
+module _ {o : SheetOutcome} {a : Result Unit SheetFault} {words : List ℕ} (read : ReadAs o a words) {n : ℕ} (k : n ≡ number_of (sheet_reply a)) where
+  pub read_said : Said o.reply n
+  read_said = said (sheet_zero a) read.reply k
+
+-- a sheet that was accepted has an accepted map
+pub read_accepted : {o : SheetOutcome} {a : Result Unit SheetFault} {words : List ℕ} {x : Unit} → ReadAs o a words → a ≡ Ok x → o.reply ≡ accepted
+read_accepted r z = sym r.reply ∙ ap sheet_reply z
+
+pub read_refused : {o : SheetOutcome} {a : Result Unit SheetFault} {words : List ℕ} {f : SheetFault} → ReadAs o a words → a ≡ Err f → o.reply ≡ sheet_fault_reply f
+read_refused r z = sym r.reply ∙ ap sheet_reply z

@@ -1,12 +1,15 @@
 -- Laws of the fields of one region. Assumes nothing.
-use mathlib.Core.Path.{◌≡◌, sym, ◌∙◌}
+use mathlib.Core.Path.{◌≡◌, refl, sym, ◌∙◌}
 use mathlib.Core.Bool.{true, false}
 use mathlib.Core.List.{List}
 use Prim.Native.Nat.{ℕ, ◌+◌, ◌≤◌, ◌<◌}
 use native.Mathlib.Numerals.{add-one}
 use lib.ListN.{get_or, drop, drop_of_length-le}
 use lib.Seq.{drop-cons}
-use Rattle.map_records.specs.Map.{has, with_value}
+use borrow.Author.Tests.{lt-leb}
+use Rattle.map_records.specs.Map.{managed, has, with_value, kind_number}
+use Rattle.map_records.specs.declared.kind.Kind.{Kind}
+use Rattle.map_records.specs.declared.kind.Kind.TheVariants as kind
 use Rattle.map_check.specs.Fault.{kind_fault}
 use Rattle.map_check.specs.Reply.{Reply, place}
 use Rattle.map_records.specs.declared.map.Region.{Region}
@@ -46,15 +49,23 @@ pub fields_done : (s : List ℕ) (r : Region) (at i : ℕ) → 8 ≤ i → got r
 unfolding fields_from
 fields_done s r at i h = rw (drop_of_length-le sheet_fields {i = i} h)
 
+-- a kind's number is no fault, and one that names no kind is
+kind_named : (k : Kind) → kind_fault (kind_number k) ≡ false
+kind_named kind.Container = refl
+kind_named kind.Ram = refl
+kind_named kind.Mmio = refl
+kind_named kind.Alias = refl
+kind_named kind.Managed = refl
+
 module _ (s : List ℕ) (at : ℕ) where
   pub region_refused : (a : Reply) → sheet_number s at ≡ refused a → refused a ≡ sheet_region s at
   unfolding sheet_region
   region_refused a n = rw n
 
-  pub region_kind : (k then : ℕ) → sheet_number s at ≡ got k then → kind_fault k ≡ true → refused (place 4 at) ≡ sheet_region s at
+  pub region_unknown : (k then : ℕ) → sheet_number s at ≡ got k then → managed < k → refused (place 4 at) ≡ sheet_region s at
   unfolding sheet_region
-  region_kind k then n h = rw (n, h)
+  region_unknown k then n h = rw (n, lt-leb k managed h)
 
-  pub region_read : (k then : ℕ) → sheet_number s at ≡ got k then → kind_fault k ≡ false → fields_from s sheet_fields (of_kind k) then ≡ sheet_region s at
+  pub region_read : (k : Kind) (n then : ℕ) → sheet_number s at ≡ got n then → n ≡ kind_number k → fields_from s sheet_fields (of_kind (kind_number k)) then ≡ sheet_region s at
   unfolding sheet_region
-  region_read k then n h = rw (n, h)
+  region_read k n then e h = rw (e, h, kind_named k)

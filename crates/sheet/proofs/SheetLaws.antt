@@ -8,21 +8,22 @@ use native.Mathlib.Numerals.{add-one}
 use lib.Dec.{eqb, ltb}
 use lib.ListN.{length, set}
 use lib.Seq.{sets, length-sets}
-use borrow.Author.Tests.{ltb-false, eq-eqb, ne_eqb}
+use borrow.Author.Tests.{ltb-false, lt-ltb, le-ltb, eq-eqb, ne_eqb}
+use mathlib.Core.Logic.{◌⊎◌, inl, inr}
 use Rattle.map_records.specs.Map.{blank_map}
 use Rattle.map_records.specs.Words.{map_of, map_words, region_words}
 use Rattle.map_records.proofs.WordLaws.{region_stored, region_count_stored, map_back}
 use Rattle.map_check.proofs.Bools.{or_right, never}
-use Rattle.map_check.specs.Check.{reply, judged}
+use Rattle.map_check.specs.Check.{judged}
 use Rattle.map_records.specs.Limits.{map_length}
-use Rattle.map_check.specs.declared.check.MapAnswer.{MapAnswer}
 use Rattle.map_check.specs.Reply.{Reply, accepted, nodes, place, plain, passes, Laid}
 use Rattle.map_records.specs.declared.map.Region.{Region}
 use Rattle.map_records.specs.declared.map.RegionMap.{RegionMap}
 use Rattle.sheet.proofs.RefusalLaws.{number_not, regions_not}
-use Rattle.sheet.specs.Answer.{got, refused, next, sheet_reply}
-use Rattle.sheet.specs.declared.answer.SheetAnswer.{SheetAnswer}
-use Rattle.sheet.specs.declared.answer.SheetAnswer.TheVariants.{Count, Tail, Checked}
+use Rattle.std.specs.Prelude.{Result, Err}
+use Rattle.sheet.specs.Answer.{got, refused, next, sheet_fault_reply, sheet_reply}
+use Rattle.sheet.specs.declared.answer.SheetFault.{SheetFault}
+use Rattle.sheet.specs.declared.answer.SheetFault.TheVariants as fault
 use Rattle.sheet.specs.Number.{sheet_number}
 use Rattle.sheet.specs.Region.{sheet_region}
 use Rattle.sheet.specs.Sheet.{with_region, regions_from, map_at, SheetOutcome, sheet_refusal, checked, read_sheet, map_laid, read_into}
@@ -75,30 +76,30 @@ not_passed : (r : Reply) → passes r ≡ true → passes r ≡ false → ⊥
 not_passed r p q = never (sym p ∙ q)
 
 -- a refusal
-turned : (o : SheetOutcome) (a : SheetAnswer) (w : List ℕ) → length w ≡ map_length → sheet_refusal (sheet_reply a) ≡ o → passes (sheet_reply a) ≡ false → ReadsMap o a w
+turned : (o : SheetOutcome) (a : Result Unit SheetFault) (w : List ℕ) → length w ≡ map_length → sheet_refusal (sheet_reply a) ≡ o → passes (sheet_reply a) ≡ false → ReadsMap o a w
 turned o a w size e p = record { size = size; reply = ap (λ (x : SheetOutcome). x.reply) e; map = λ q. absurd (not_passed (sheet_reply a) q p) }
 
 module _ (s : List ℕ) (memory : ℕ) (w : List ℕ) (size : length w ≡ map_length) where
-  pub read_number_not : (a : SheetAnswer) → sheet_number s 0 ≡ refused (sheet_reply a) → ReadsMap (read_sheet s memory) a w
+  pub read_number_not : (f : SheetFault) → sheet_number s 0 ≡ refused (sheet_fault_reply f) → ReadsMap (read_sheet s memory) (Err f) w
   unfolding read_sheet map_at
-  read_number_not a e = turned (read_sheet s memory) a w size (rw e) (number_not s 0 (sheet_reply a) e)
+  read_number_not f e = turned (read_sheet s memory) (Err f) w size (rw e) (number_not s 0 (sheet_fault_reply f) e)
 
   module _ (n then : ℕ) (e : sheet_number s 0 ≡ got n then) where
-    pub read_count_not : (eqb n 0 || ltb 32 n) ≡ true → ReadsMap (read_sheet s memory) (Count 0) w
+    pub read_count_not : (eqb n 0 || ltb 32 n) ≡ true → ReadsMap (read_sheet s memory) (Err (fault.Count 0)) w
     unfolding read_sheet map_at
-    read_count_not h = turned (read_sheet s memory) (Count 0) w size (rw (e, h)) refl
+    read_count_not h = turned (read_sheet s memory) (Err (fault.Count 0)) w size (rw (e, h)) refl
 
     module _ (h : (eqb n 0 || ltb 32 n) ≡ false) where
-      pub read_regions_not : (a : SheetAnswer) → refused (sheet_reply a) ≡ regions_from s n 0 (blank_map n) then → ReadsMap (read_sheet s memory) a w
+      pub read_regions_not : (f : SheetFault) → refused (sheet_fault_reply f) ≡ regions_from s n 0 (blank_map n) then → ReadsMap (read_sheet s memory) (Err f) w
       unfolding read_sheet map_at
-      read_regions_not a r = turned (read_sheet s memory) a w size (rw (e, h, ← r)) (regions_not s n 0 (blank_map n) then (sheet_reply a) (sym r))
+      read_regions_not f r = turned (read_sheet s memory) (Err f) w size (rw (e, h, ← r)) (regions_not s n 0 (blank_map n) then (sheet_fault_reply f) (sym r))
 
       module _ (end : ℕ) (r : got (map_of w) end ≡ regions_from s n 0 (blank_map n) then) where
-        pub read_tail : ltb end (length s) ≡ true → ReadsMap (read_sheet s memory) (Tail end) w
+        pub read_tail : ltb end (length s) ≡ true → ReadsMap (read_sheet s memory) (Err (fault.Tail end)) w
         unfolding read_sheet map_at
-        read_tail t = turned (read_sheet s memory) (Tail end) w size (rw (e, h, ← r, t)) refl
+        read_tail t = turned (read_sheet s memory) (Err (fault.Tail end)) w size (rw (e, h, ← r, t)) refl
 
-        pub read_end : ltb end (length s) ≡ false → (a : MapAnswer) → reply a ≡ judged (map_of w) memory → ReadsMap (read_sheet s memory) (Checked a) w
+        pub read_end : ltb end (length s) ≡ false → (a : Result Unit SheetFault) → sheet_reply a ≡ judged (map_of w) memory → ReadsMap (read_sheet s memory) a w
         unfolding read_sheet map_at
         read_end t a j =
             let o : read_sheet s memory ≡ checked (map_of w) (judged (map_of w) memory) = rw (e, h, ← r, t) in
@@ -108,8 +109,16 @@ module _ (s : List ℕ) (memory : ℕ) (w : List ℕ) (size : length w ≡ map_l
               map = λ p. sym (ap (λ (x : SheetOutcome). x.map) o ∙ checked_map (map_of w) (judged (map_of w) memory) (ap passes (sym j) ∙ p));
             }
 
+-- the counts of a map
 pub count_bound : (n : ℕ) → (eqb n 0 || ltb 32 n) ≡ false → n ≤ 32
 count_bound n h = ltb-false 32 n (or_right (eqb n 0) (ltb 32 n) h)
+
+pub count_allowed : (n : ℕ) → (n ≡ 0 → ⊥) → n ≤ 32 → (eqb n 0 || ltb 32 n) ≡ false
+count_allowed n h l = rw (ne_eqb n 0 h, le-ltb 32 n l)
+
+pub count_refused : (n : ℕ) → (n ≡ 0) ⊎ ((n ≡ 0 → ⊥) × 32 < n) → (eqb n 0 || ltb 32 n) ≡ true
+count_refused n (inl e) = rw (eq-eqb n 0 e)
+count_refused n (inr h) = rw (ne_eqb n 0 h.0, lt-ltb 32 n h.1)
 
 -- ---- the lent words
 module _ (s : List ℕ) (memory : ℕ) (map : List ℕ) where
@@ -117,7 +126,7 @@ module _ (s : List ℕ) (memory : ℕ) (map : List ℕ) where
   unfolding read_into
   into_other h = rw (ne_eqb (length map) map_length h)
 
-  module _ (size : length map ≡ map_length) (a : SheetAnswer) (w : List ℕ) (d : ReadsMap (read_sheet s memory) a w) where
+  module _ (size : length map ≡ map_length) (a : Result Unit SheetFault) (w : List ℕ) (d : ReadsMap (read_sheet s memory) a w) where
     into_map : read_into s memory map ≡ map_laid (read_sheet s memory) map
     unfolding read_into
     into_map = rw (eq-eqb (length map) map_length size)

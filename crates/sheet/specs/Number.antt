@@ -1,10 +1,8 @@
 -- 'Numbers in groups of seven bits, lowest group first, high bit set where another group follows; at most 8 groups; shortest form'. Assumes nothing: these are definitions.
 use Rattle.std.specs.Prelude.{Bool, true, false, cond, ◌&&◌, List, ℕ, zero, suc, ◌+◌, ◌-◌, ◌*◌, eqb, leb, ltb, length, get_or}
 use Rattle.map_check.specs.Reply.{place}
-use Rattle.sheet.specs.Answer.{Read, got, refused, sheet_reply}
+use Rattle.sheet.specs.Answer.{Read, got, refused}
 use Rattle.map_records.specs.Refusal as refusal
-use Rattle.sheet.specs.declared.number.NumberRead.{NumberRead}
-use Rattle.sheet.specs.declared.number.NumberRead.TheVariants.{Value, Refused}
 
 -- a low group in front of a number's higher groups
 abbrev pub joined : ℕ → Read ℕ → Read ℕ
@@ -32,8 +30,3 @@ most_groups = 8
 
 abbrev pub sheet_number : List ℕ → ℕ → Read ℕ
 sheet_number s at = groups s (most_groups - 1) false at
-
--- what the reader of one number answers
-abbrev pub read_by : NumberRead → Read ℕ
-read_by (Value v c) = got v c.at
-read_by (Refused a) = refused (sheet_reply a)

@@ -6,37 +6,28 @@ ghost use Rattle.map_records.specs.Map.{blank_map};
 ghost use Rattle.sheet.specs.Promises.{progress_of};
 ghost use Rattle.map_records.specs.Limits.{map_length, most_regions};
 
-use crate::answer::{Cursor, SheetAnswer};
-use crate::fields::{RegionRead, read_region};
+use crate::answer::{Cursor, SheetFault};
+use crate::fields::read_region;
 use map_records::words::put_region;
 
-// How far the reading went.
-#[derive(Clone, Copy)]
-pub enum Progress {
-    Done(Cursor),
-    Refused(SheetAnswer),
-}
-
-// `count` regions from a cursor on, laid into a blank map.
-pub fn read_regions(sheet: &[u8], from: Cursor, count: usize, map: &mut [u64]) -> Progress
+// `count` regions from a cursor on, laid into a blank map; the cursor past them.
+pub fn read_regions(
+    sheet: &[u8],
+    from: Cursor,
+    count: usize,
+    map: &mut [u64],
+) -> Result<Cursor, SheetFault>
     requires count_le_most_regions { count ≤ most_regions }
     requires map_len { (length map.old ≡ map_length) × (map_of map.old ≡ blank_map count) }
     ensures { (progress_of result (map_of map.new) ≡ regions_from sheet.now count 0 (blank_map count) from.at)
         × (length map.new ≡ map_length) }
 {
     let mut at = from;
-    let mut n: usize = 0;
-    while n < count {
-        match read_region(sheet, at) {
-            RegionRead::Whole(region, next) => {
-                put_region(map, n, region);
-                at = next;
-            }
-            RegionRead::Refused(answer) => {
-                return Progress::Refused(answer);
-            }
-        }
-        n += 1;
+    // By number, since only `map_records` knows where a region's words lie.
+    for n in 0..count {
+        let (region, next) = read_region(sheet, at)?;
+        put_region(map, n, region);
+        at = next;
     }
-    Progress::Done(at)
+    Ok(at)
 }

@@ -1,65 +1,106 @@
 -- A promise fixes the code's answer: two answers of the code that stand for one of document 01's are equal. Assumes nothing.
-use Rattle.std.proofs.Common.{◌≡◌, cond, eqb, refl, ap}
-use Rattle.map_check.specs.Reply.{Reply, number_of}
+use Rattle.std.proofs.Common.{◌≡◌, ℕ, cond, false, eqb, refl, ap}
+use Rattle.std.specs.Prelude.{Option, Some, None, Result, Ok, Err}
+use Rattle.map_check.specs.Reply.{Reply, number_of, passes, reply_by}
+use Rattle.map_check.specs.declared.answer.RecordFault.{RecordFault}
 use Rattle.map_check.proofs.Answers.{injective}
-use Rattle.virtqueue.specs.Queue.{queue_reply, Given, given_by}
+use Rattle.virtqueue.specs.Queue.{queue_fault_reply, record_fault_reply, stop_number, stop_reply, Given, given_by}
 use Rattle.virtqueue.specs.Step as step
-use Rattle.virtqueue.specs.Does.{answer_of}
+use Rattle.virtqueue.specs.Does.{step_fault, step_fault_reply, answer_of}
 use Rattle.virtqueue.specs.Run as run
-use Rattle.virtqueue.specs.declared.queue.QueueAnswer.{QueueAnswer}
-use Rattle.virtqueue.specs.declared.queue.QueueAnswer.TheVariants as queue
-use Rattle.virtqueue.specs.declared.queue.QueueGiven.{QueueGiven}
+use Rattle.virtqueue.specs.declared.queue.QueueFault.{QueueFault}
+use Rattle.virtqueue.specs.declared.queue.QueueStop.{QueueStop}
+use Rattle.virtqueue.specs.declared.queue.QueueStop.TheVariants as stops
+use Rattle.virtqueue.specs.declared.queue.SplitQueue.{SplitQueue}
 use Rattle.virtqueue.specs.declared.run.RunEnd.{RunEnd}
 use Rattle.virtqueue.specs.declared.run.RunEnd.TheVariants as end
-use Rattle.virtqueue.specs.declared.step.StepOutcome.{StepOutcome}
-use Rattle.virtqueue.specs.declared.step.StepOutcome.TheVariants as outcome
+use Rattle.virtqueue.specs.declared.step.Served.{Served}
+use Rattle.virtqueue.specs.declared.step.StepFault.{StepFault}
+use Rattle.virtqueue.specs.declared.step.StepFault.TheVariants as fault
 
-outcome_of : step.Answer → StepOutcome
-outcome_of (step.refused n) = outcome.Refused n
-outcome_of step.idle = outcome.Idle
-outcome_of (step.served notify) = outcome.Served notify
+-- what a number stops a queue with
+stop_by : ℕ → QueueStop
+stop_by n =
+    cond (eqb n 17) stops.Ring (cond (eqb n 18) stops.Ahead (cond (eqb n 19) stops.Head (cond (eqb n 20) stops.Chain (cond (eqb n 21) stops.Reach stops.Shape))))
 
-outcome_back : (a : StepOutcome) → outcome_of (answer_of a) ≡ a
+fault_by : ℕ → StepFault
+fault_by n = cond (eqb n 27) fault.Record (fault.Stopped (stop_by n))
+
+fault_back : (f : StepFault) → fault_by (step_fault f) ≡ f
+unfolding fault_by stop_by
+fault_back (fault.Stopped stops.Ring) = refl
+fault_back (fault.Stopped stops.Ahead) = refl
+fault_back (fault.Stopped stops.Head) = refl
+fault_back (fault.Stopped stops.Chain) = refl
+fault_back (fault.Stopped stops.Reach) = refl
+fault_back (fault.Stopped stops.Shape) = refl
+fault_back fault.Record = refl
+
+pub step_fault_injective : (a b : StepFault) → step_fault a ≡ step_fault b → a ≡ b
+step_fault_injective = injective step_fault fault_by fault_back
+
+outcome_of : step.Answer → Result (Option Served) StepFault
+outcome_of (step.refused n) = Err (fault_by n)
+outcome_of step.idle = Ok None
+outcome_of (step.served notify) = Ok (Some (record { notify = notify }))
+
+outcome_back : (a : Result (Option Served) StepFault) → outcome_of (answer_of a) ≡ a
 unfolding outcome_of
-outcome_back (outcome.Refused n) = refl
-outcome_back outcome.Idle = refl
-outcome_back (outcome.Served notify) = refl
+outcome_back (Err f) = ap (λ (x : StepFault). Err x) (fault_back f)
+outcome_back (Ok None) = refl
+outcome_back (Ok (Some s)) = refl
 
-pub step_answer_injective : (a b : StepOutcome) → answer_of a ≡ answer_of b → a ≡ b
+pub step_answer_injective : (a b : Result (Option Served) StepFault) → answer_of a ≡ answer_of b → a ≡ b
 step_answer_injective = injective answer_of outcome_of outcome_back
 
-end_by : run.End → RunEnd
-end_by run.all_done = end.AllDone
-end_by run.went_idle = end.Idle
-end_by (run.refused_by n) = end.Refused n
+end_by : run.End → Result RunEnd StepFault
+end_by run.all_done = Ok end.AllDone
+end_by run.went_idle = Ok end.Idle
+end_by (run.refused_by n) = Err (fault_by n)
 
-end_back : (e : RunEnd) → end_by (run.run_end_of e) ≡ e
+end_back : (e : Result RunEnd StepFault) → end_by (run.run_end_of e) ≡ e
 unfolding end_by
-end_back end.AllDone = refl
-end_back end.Idle = refl
-end_back (end.Refused n) = refl
+end_back (Ok end.AllDone) = refl
+end_back (Ok end.Idle) = refl
+end_back (Err f) = ap (λ (x : StepFault). Err x) (fault_back f)
 
-pub run_end_injective : (a b : RunEnd) → run.run_end_of a ≡ run.run_end_of b → a ≡ b
+pub run_end_injective : (a b : Result RunEnd StepFault) → run.run_end_of a ≡ run.run_end_of b → a ≡ b
 run_end_injective = injective run.run_end_of end_by end_back
 
-queue_answer_of : Reply → QueueAnswer
-queue_answer_of r = cond (eqb (number_of r) 0) queue.Done (cond (eqb (number_of r) 16) queue.Queue queue.Record)
+-- the numbers of a step's and a run's answer are those of their faults
+pub step_replies : (a : Result (Option Served) StepFault) → step.step_reply (answer_of a) ≡ reply_by step_fault_reply a
+step_replies (Err f) = refl
+step_replies (Ok None) = refl
+step_replies (Ok (Some s)) = refl
 
-queue_back : (a : QueueAnswer) → queue_answer_of (queue_reply a) ≡ a
-unfolding queue_answer_of
-queue_back queue.Done = refl
-queue_back queue.Queue = refl
-queue_back queue.Record = refl
+pub run_replies : (e : Result RunEnd StepFault) → run.end_reply (run.run_end_of e) ≡ reply_by step_fault_reply e
+run_replies (Ok end.AllDone) = refl
+run_replies (Ok end.Idle) = refl
+run_replies (Err f) = refl
 
-pub queue_reply_injective : (a b : QueueAnswer) → queue_reply a ≡ queue_reply b → a ≡ b
-queue_reply_injective = injective queue_reply queue_answer_of queue_back
+given_to : {E : Type 0} → E → Given → Result SplitQueue E
+given_to e g = cond (passes g.reply) (Ok g.queue) (Err e)
 
-queue_given_of : Given → QueueGiven
-queue_given_of g = record { answer = queue_answer_of g.reply; queue = g.queue }
+given_back : {E : Type 0} (fault : E → Reply) (e : E) → ((x : E) → passes (fault x) ≡ false) → ((x : E) → e ≡ x) → (left : SplitQueue) (a : Result SplitQueue E)
+    → given_to e (given_by fault left a) ≡ a
+unfolding given_to
+given_back fault e p u left (Ok q) = refl
+given_back {E = E} fault e p u left (Err x) = rw (p x) (ap (λ (y : E). Err y) (u x))
 
-given_back : (g : QueueGiven) → queue_given_of (given_by g) ≡ g
-unfolding queue_given_of
-given_back g = ap (λ a. record { answer = a; queue = g.queue }) (queue_back g.answer)
+-- a call with one fault: its answer, with the record that a refusal stands for, determines what it returned
+pub queue_given_injective : {E : Type 0} (fault : E → Reply) (e : E) → ((x : E) → passes (fault x) ≡ false) → ((x : E) → e ≡ x) → (left : SplitQueue) (a b : Result SplitQueue E)
+    → given_by fault left a ≡ given_by fault left b → a ≡ b
+queue_given_injective fault e p u left = injective (given_by fault left) (given_to e) (given_back fault e p u left)
 
-pub queue_given_injective : (a b : QueueGiven) → given_by a ≡ given_by b → a ≡ b
-queue_given_injective = injective given_by queue_given_of given_back
+pub made_injective : (left : SplitQueue) (a b : Result SplitQueue QueueFault) → given_by queue_fault_reply left a ≡ given_by queue_fault_reply left b → a ≡ b
+made_injective = queue_given_injective queue_fault_reply (record {}) (λ x. refl) (λ x. refl)
+
+pub reset_injective : (left : SplitQueue) (a b : Result SplitQueue RecordFault) → given_by record_fault_reply left a ≡ given_by record_fault_reply left b → a ≡ b
+reset_injective = queue_given_injective record_fault_reply (record {}) (λ x. refl) (λ x. refl)
+
+-- and what stops a queue is determined by its reply
+pub stop_reply_injective : (a b : QueueStop) → stop_reply a ≡ stop_reply b → a ≡ b
+stop_reply_injective a b e =
+    let n : stop_number a ≡ stop_number b = ap number_of e in
+    let f : fault.Stopped a ≡ fault.Stopped b = step_fault_injective (fault.Stopped a) (fault.Stopped b) n in
+    cc

@@ -8,8 +8,9 @@ use Rattle.device_words.specs.Bytes.{number_by}
 use Rattle.guest_view.proofs.MemoryLaws.{length_addresses}
 use Rattle.virtqueue.specs.Chain.{Chain, Entry, out, here, whole, ended, element, Following, onward, astray, next_below, has_next, is_writable, misplaced, visit, follow, end_of, readable, writable, total, first_bytes, descriptor_at}
 use Rattle.virtqueue.specs.Step.{request_bytes, response_places}
-use Rattle.virtqueue.specs.Promises.{Got, added, stop_at, Visits, Gathers}
+use Rattle.virtqueue.specs.Promises.{added, stop_at, Whole}
 use Rattle.virtqueue.specs.declared.chain.Descriptor.{Descriptor}
+use Rattle.virtqueue.specs.declared.chain.Gathered.{Gathered}
 
 -- the front of a list into which ys was stored after its first n
 pub take_sets : (xs ys : List ℕ) (n m : ℕ) → length ys ≡ m → n + m ≤ length xs → take (n + m) (sets xs n ys) ≡ take n xs ++ ys
@@ -43,7 +44,7 @@ length_first k (d ∷ ds) =
     ∙ omega (arith, length_addresses d.addr.0 (min k d.length), length_first (k - d.length) ds)
 
 -- what an element adds, by its kind
-module _ (place : ℕ → ℕ) (memory : List ℕ) (s : Got) (d : Descriptor) where
+module _ (place : ℕ → ℕ) (memory : List ℕ) (s : Gathered) (d : Descriptor) where
   pub added_written : is_writable d ≡ true → (n : ℕ) → n ≡ min (10 - s.writable) d.length
       → record { request = s.request; readable = s.readable; places = sets s.places s.writable (map place (addresses d.addr.0 n)); writable = s.writable + n; late = true } ≡ added place memory s d
   unfolding added
@@ -62,17 +63,6 @@ module _ (place : ℕ → ℕ) (memory : List ℕ) (s : Got) (d : Descriptor) wh
       go true w = rw w
       go false w = rw w
 
--- what one descriptor comes to
-module _ (place : ℕ → ℕ) (memory : List ℕ) (R : Descriptor → Bool) (d : Descriptor) (s : Got) (k : ℕ) (t : Got) where
-  pub visits_misplaced : misplaced s.late d ≡ true → k ≡ 20 → Visits place memory R d s k t
-  visits_misplaced m e = record { end = rw m e; accepted = λ z. absurd (let f = e in omega arith) }
-
-  pub visits_refused : misplaced s.late d ≡ false → R d ≡ false → k ≡ 21 → Visits place memory R d s k t
-  visits_refused m r e = record { end = rw (m, r) e; accepted = λ z. absurd (let f = e in omega arith) }
-
-  pub visits_added : misplaced s.late d ≡ false → R d ≡ true → k ≡ 0 → t ≡ added place memory s d → Visits place memory R d s k t
-  visits_added m r e a = record { end = rw (m, r) e; accepted = λ z. a }
-
 -- bytes or places stored into a part of a buffer
 pub part_sets : (xs ys : List ℕ) (n k : ℕ) → length ys ≡ k → n + k ≤ length xs → take n xs ++ (ys ++ drop k (drop n xs)) ≡ sets xs n ys
 part_sets xs ys n k e h =
@@ -89,7 +79,7 @@ stretch_stored f xs ys a w k n e h p =
     part_sets xs ys w k r (omega arith) ∙ ap (λ (z : List ℕ). sets xs w z) q
 
 -- What is gathered of a chain c₀ where c is left of it.
-pub record Going (place : ℕ → ℕ) (memory : List ℕ) (c₀ c : Chain) (s : Got) : Type 0 where
+pub record Going (place : ℕ → ℕ) (memory : List ℕ) (c₀ c : Chain) (s : Gathered) : Type 0 where
   pub few_read : s.readable ≤ 24
   pub few_written : s.writable ≤ 10
   pub all_read : length s.request ≡ 24
@@ -105,14 +95,14 @@ module _ (place : ℕ → ℕ) (memory : List ℕ) (c₀ : Chain) where
   going_start request places p q =
       record { few_read = omega arith; few_written = omega arith; all_read = p; all_written = q; end = refl; request = refl; places = refl }
 
-  pub going_added : (c : Chain) (d : Descriptor) (s : Got) → Going place memory c₀ (element d c) s → Going place memory c₀ c (added place memory s d)
+  pub going_added : (c : Chain) (d : Descriptor) (s : Gathered) → Going place memory c₀ (element d c) s → Going place memory c₀ c (added place memory s d)
   unfolding end_of readable writable
   going_added c d s g = go (is_writable d) refl
     where
       go : (b : Bool) → is_writable d ≡ b → Going place memory c₀ c (added place memory s d)
       go true w =
           let k : ℕ = min (10 - s.writable) d.length in
-          subst (λ (r : Got). Going place memory c₀ c r) (added_written place memory s d w k refl)
+          subst (λ (r : Gathered). Going place memory c₀ c r) (added_written place memory s d w k refl)
           (record {
             few_read = g.few_read;
             few_written = omega (arith, g.few_written);
@@ -124,7 +114,7 @@ module _ (place : ℕ → ℕ) (memory : List ℕ) (c₀ : Chain) where
           })
       go false w =
           let k : ℕ = min (24 - s.readable) d.length in
-          subst (λ (r : Got). Going place memory c₀ c r) (added_read place memory s d w k refl)
+          subst (λ (r : Gathered). Going place memory c₀ c r) (added_read place memory s d w k refl)
           (record {
             few_read = omega (arith, g.few_read);
             few_written = g.few_written;
@@ -136,33 +126,23 @@ module _ (place : ℕ → ℕ) (memory : List ℕ) (c₀ : Chain) where
           })
 
   -- the last element was gathered
-  pub going_whole : (s : Got) (k : ℕ) → k ≡ 0 → Going place memory c₀ whole s → Gathers place memory c₀ k s
+  pub going_whole : (s : Gathered) → Going place memory c₀ whole s → Whole place memory c₀ s
   unfolding end_of readable writable first_bytes
-  going_whole s k z g =
+  going_whole s g =
       record {
-        end = z ∙ g.end;
-        few_read = λ e. g.few_read;
-        few_written = λ e. g.few_written;
-        request = λ e. sym (append-nil (take s.readable s.request)) ∙ g.request;
-        places = λ e. sym (append-nil (take s.writable s.places)) ∙ g.places;
+        end = sym g.end;
+        all_read = g.all_read;
+        all_written = g.all_written;
+        few_read = g.few_read;
+        few_written = g.few_written;
+        request = sym (append-nil (take s.readable s.request)) ∙ g.request;
+        places = sym (append-nil (take s.writable s.places)) ∙ g.places;
       }
 
   -- one element more of the chain that was left
-  pub going_next : (c rest : Chain) (d : Descriptor) (s r : Got) → Going place memory c₀ c s → c ≡ element d rest → r ≡ added place memory s d → Going place memory c₀ rest r
+  pub going_next : (c rest : Chain) (d : Descriptor) (s r : Gathered) → Going place memory c₀ c s → c ≡ element d rest → r ≡ added place memory s d → Going place memory c₀ rest r
   going_next c rest d s r g e q =
-      subst (λ (t : Got). Going place memory c₀ rest t) (sym q) (going_added rest d s (subst (λ (t : Chain). Going place memory c₀ t s) e g))
-
-  -- a number ended it
-  pub going_ended : (c : Chain) (k j : ℕ) (s t : Got) → Going place memory c₀ c s → end_of c ≡ k → (k ≡ 0 → ⊥) → j ≡ k → Gathers place memory c₀ j t
-  going_ended c k j s t g e p q =
-      let never : end_of c₀ ≡ 0 → ⊥ = λ n. p (sym e ∙ g.end ∙ n) in
-      record {
-        end = q ∙ sym e ∙ g.end;
-        few_read = λ n. absurd (never n);
-        few_written = λ n. absurd (never n);
-        request = λ n. absurd (never n);
-        places = λ n. absurd (never n);
-      }
+      subst (λ (t : Gathered). Going place memory c₀ rest t) (sym q) (going_added rest d s (subst (λ (t : Chain). Going place memory c₀ t s) e g))
 
 -- the chain left at a descriptor
 pub end_ended : (k : ℕ) → end_of (ended k) ≡ k
@@ -246,3 +226,13 @@ descriptor_laid place memory a =
     let third = number_laid place memory a 16 12 2 (omega arith) in
     let fourth = number_laid place memory a 16 14 2 (omega arith) in
     λ i. record { addr = record { 0 = first i }; length = second i; flags = third i; next = fourth i }
+
+-- numbers as the language reads their bytes
+module _ (f : ℕ → ℕ) (a : ℕ) where
+  pub two_read : f a + f (suc a) * 256 ≡ number_by f a 2
+  unfolding number_by
+  two_read = omega arith
+
+  pub four_read : f a + f (suc a) * 256 + f (suc (suc a)) * 65536 + f (suc (suc (suc a))) * 16777216 ≡ number_by f a 4
+  unfolding number_by
+  four_read = omega arith

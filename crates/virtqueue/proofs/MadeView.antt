@@ -55,7 +55,7 @@ module _ (m : RegionMap) (memory : ℕ) (ok : Accepted m memory) (few : length (
       go : (r : FlatRange) → range_of (view_holding (flat_list m)) k ≡ r → ValuedEntry (backing_of m) r × (lookup (flat_list m) r.last.0 ≡ range_answer r r.last.0)
           → (range_of (view_holding (flat_list m)) k).kind ≡ managed → InManaged (range_of (view_holding (flat_list m)) k)
       go r is q e =
-          let leaf = root_leaf m memory ok r.last.0 r.region (record { 0 = last_offset r }) (sym (list_gives_lem m r.last.0) ∙ q.1) in
+          let leaf = root_leaf m memory ok r.last.0 (record { region = r.region; offset = record { 0 = last_offset r } }) (sym (list_gives_lem m r.last.0) ∙ q.1) in
           let kind : (region m r.region).kind ≡ managed = sym q.0.kind ∙ ap (λ (x : FlatRange). x.kind) (sym is) ∙ e in
           subst InManaged (sym is) (record { below = leaf.below; kind = kind; inside = leaf.inside })
 

@@ -1,5 +1,6 @@
 -- Laws of a run: the turns of the loop over steps. Assumes nothing.
 use Rattle.std.proofs.Common.{◌≡◌, ℕ, suc, ◌+◌, ◌-◌, ◌<◌, ◌≤◌, min, Bool, true, false, ◌||◌, List, length, sym, refl, ap, ◌∙◌, arith, eq-eqb, eqb-true}
+use Rattle.std.specs.Prelude.{Option, Some, None, Result, Ok, Err}
 use Rattle.map_records.specs.declared.view.FlatView.{FlatView}
 use Rattle.device_words.specs.Device.{device_ok}
 use Rattle.device_words.specs.Device.{MemoryDevice}
@@ -10,13 +11,15 @@ use Rattle.virtqueue.specs.Step.{Answer, refused, Effect, stepped_by, records_ok
 use Rattle.virtqueue.specs.Step as step
 use Rattle.virtqueue.specs.Run.{judged_step, RunEffect, run_ends, run_end_of, goes_on, steps_by, ran, RunDoes}
 use Rattle.virtqueue.specs.declared.queue.SplitQueue.{SplitQueue}
-use Rattle.virtqueue.specs.declared.step.StepOutcome.TheVariants as outcome
+use Rattle.virtqueue.specs.declared.step.Served.{Served}
+use Rattle.virtqueue.specs.declared.step.StepFault.{StepFault}
+use Rattle.virtqueue.specs.declared.step.StepFault.TheVariants as fault
 use Rattle.virtqueue.specs.declared.step.Moved.{Moved}
 use Rattle.virtqueue.specs.declared.run.RunEnd.{RunEnd}
 use Rattle.virtqueue.specs.declared.run.RunEnd.TheVariants as end
 use Rattle.virtqueue.specs.declared.run.Ran.{Ran}
 use Rattle.device_words.specs.Words.{is_device, device_of, device_words, device_length}
-use Rattle.virtqueue.specs.Does.{answer_of}
+use Rattle.virtqueue.specs.Does.{step_fault, answer_of}
 use Rattle.virtqueue.proofs.DeviceLaws.{tables, step_tables, laid_back, full}
 use Rattle.virtqueue.proofs.StepLaws.{Left}
 use Rattle.virtqueue.proofs.RunSteps.{step_kept, run_is_steps}
@@ -35,7 +38,7 @@ pub record Running (v : FlatView) (most : ℕ) (memory₀ : List ℕ) (d₀ : Me
   pub rest : steps_from v (most - served) served notified (device_of w) q memory ≡ steps_from v most 0 false d₀ q₀ memory₀
 
 -- what the loop leaves
-abbrev pub Ends : FlatView → ℕ → List ℕ → MemoryDevice → SplitQueue → ℕ → Bool → RunEnd → SplitQueue → List ℕ → List ℕ → Type 0
+abbrev pub Ends : FlatView → ℕ → List ℕ → MemoryDevice → SplitQueue → ℕ → Bool → Result RunEnd StepFault → SplitQueue → List ℕ → List ℕ → Type 0
 Ends v most memory₀ d₀ q₀ served notified e q w memory =
     run_ends served notified (run_end_of e) (device_of w) q memory ≡ steps_from v most 0 false d₀ q₀ memory₀
 
@@ -47,7 +50,7 @@ module _ (v : FlatView) (most : ℕ) (memory₀ w₀ : List ℕ) (q₀ : SplitQu
 
 module _ (v : FlatView) (most : ℕ) (memory₀ : List ℕ) (d₀ : MemoryDevice) (q₀ : SplitQueue)
     (memory w : List ℕ) (q : SplitQueue) (served : ℕ) (notified : Bool) (r : Running v most memory₀ d₀ q₀ memory w q served notified) where
-  pub run_all : most ≤ served → Ends v most memory₀ d₀ q₀ served notified end.AllDone q w memory
+  pub run_all : most ≤ served → Ends v most memory₀ d₀ q₀ served notified (Ok end.AllDone) q w memory
   unfolding steps_by
   run_all l = let e : most - served ≡ 0 = omega (arith, r.low) in rw e at r.rest
 
@@ -75,22 +78,23 @@ module _ (v : FlatView) (most : ℕ) (memory₀ : List ℕ) (d₀ : MemoryDevice
         let h : (stepped_by (by_view v d) d q memory).answer ≡ o = sym (ap (λ (e : Effect MemoryDevice). e.answer) is) ∙ g in
         rw (is, ← h) i
 
-    pub run_refused : (n : ℕ) → s.outcome ≡ outcome.Refused n → Ends v most memory₀ d₀ q₀ served notified (end.Refused n) s.queue x m
-    run_refused n g = run_step (refused n) (ap answer_of g)
+    pub run_refused : (f : StepFault) → s.outcome ≡ Err f → Ends v most memory₀ d₀ q₀ served notified (Err f) s.queue x m
+    run_refused f g = run_step (refused (step_fault f)) (ap answer_of g)
 
-    pub run_idle : s.outcome ≡ outcome.Idle → Ends v most memory₀ d₀ q₀ served notified end.Idle s.queue x m
-    run_idle g = run_step step.idle (ap answer_of g)
+    pub run_idle : (o : Option Served) → s.outcome ≡ Ok o → o ≡ None → Ends v most memory₀ d₀ q₀ served notified (Ok end.Idle) s.queue x m
+    run_idle o e f = let g : s.outcome ≡ Ok None = rw f at e in run_step step.idle (ap answer_of g)
 
-    pub run_turn : (b : Bool) → s.outcome ≡ outcome.Served b → length m ≡ length memory → Running v most memory₀ d₀ q₀ m x s.queue (served + 1) (notified || b)
-    run_turn b g y =
-        let k = step_kept (by_view v d) d q memory b r.device r.queue (sym (ap (λ (e : Effect MemoryDevice). e.answer) is) ∙ ap answer_of g) in
+    pub run_turn : (b : Served) (o : Option Served) → s.outcome ≡ Ok o → o ≡ Some b → length m ≡ length memory → Running v most memory₀ d₀ q₀ m x s.queue (served + 1) (notified || b.notify)
+    run_turn b o e f y =
+        let g : s.outcome ≡ Ok (Some b) = rw f at e in
+        let k = step_kept (by_view v d) d q memory b.notify r.device r.queue (sym (ap (λ (e : Effect MemoryDevice). e.answer) is) ∙ ap answer_of g) in
         record {
           low = omega arith;
           same = y ∙ r.same;
           words = z ∙ r.words;
           device = rw back k.0;
           queue = ap (λ (e : Effect MemoryDevice). queue_ok e.queue) is ∙ k.1;
-          rest = run_step (step.served b) (ap answer_of g);
+          rest = run_step (step.served b.notify) (ap answer_of g);
         }
 
 -- the run on records that keep 27's rules or not
@@ -119,6 +123,6 @@ module _ (v : FlatView) (w : List ℕ) (q : SplitQueue) (memory : List ℕ) (k :
       rw (h, ← e) (left_as (steps_by (stepped v) most 0 false (device_of w) q memory) r x m (full v w q (length memory) h) l (f ∙ run_is_steps v most 0 false (device_of w) q memory h))
 
   pub run_refused_all : records_ok v (device_of w) q (length memory) ≡ false
-      → RunLeft v w q memory k (record { served = 0; notified = false; end = end.Refused 27; queue = q }) w memory
+      → RunLeft v w q memory k (record { served = 0; notified = false; end = Err fault.Record; queue = q }) w memory
   unfolding ran
   run_refused_all h = rw h (refl, refl, refl, refl, sym (laid_back w), refl)

@@ -1,49 +1,35 @@
 -- Laws of a step: the used ring's places and bytes, what is written, what an offer that is ready says. Assumes nothing.
-use Rattle.std.proofs.Common.{◌≡◌, ℕ, zero, suc, ◌+◌, ◌/◌, ◌%◌, ◌^◌, ◌<◌, ◌≤◌, Bool, true, false, cond, ◌&&◌, eqb, List, [], ◌∷◌, ◌++◌, map, length, get_or, set, replicate, sym, refl, ap, ◌∙◌, add-zero, mod-eq_of_lt, arith, eq-eqb}
+use Rattle.std.proofs.Common.{◌≡◌, ℕ, zero, suc, ◌+◌, ◌^◌, ◌<◌, ◌≤◌, Bool, true, false, cond, ◌&&◌, eqb, List, [], ◌∷◌, ◌++◌, map, length, get_or, sym, refl, ap, ◌∙◌, add-zero, arith, eq-eqb}
+use Rattle.std.specs.Prelude.{Some, None, Ok, Err}
 use lib.Seq.{sets}
 use Rattle.map_check.proofs.Bools.{and_fst, and_snd}
 use Rattle.map_records.proofs.StoreLaws.{sets_append, over}
 use Rattle.map_records.specs.View.{entries}
 use Rattle.map_records.specs.declared.view.FlatView.{FlatView}
-use Rattle.device_words.specs.Bytes.{le}
 use Rattle.device_words.specs.Device.{device_ok}
 use Rattle.device_words.specs.Device.{plugged_at}
 use Rattle.device_words.specs.Device.{MemoryDevice}
 use Rattle.guest_view.specs.Guest.{leaf_at, Guest, all_reach, addresses, by_view}
-use Rattle.virtqueue.specs.Queue.{queue_ok, used_entry, used_idx, next_index, stopped_by, advanced}
+use Rattle.virtqueue.specs.Queue.{queue_ok, stop_number, used_entry, used_idx, stopped_by, advanced}
 use Rattle.virtqueue.specs.Chain.{Chain, writable, first_bytes, shape_of}
-use Rattle.virtqueue.specs.Step.{Way, halted, quiet, along, way_of, chain_of, used_reached, Offer, stop, nothing, ready, offer_chain, offer_of, offered, request_bytes, response_places, used_places, used_bytes, carrying, served_memory, stepped_by, records_ok, stepped}
+use Rattle.virtqueue.specs.Step.{Way, halted, quiet, along, way_of, chain_of, used_reached, stop, nothing, ready, offer_chain, offer_of, offered, response_places, used_places, used_bytes, carrying, served_memory, stepped_by, records_ok, stepped}
 use Rattle.guest_view.specs.View.{view_ok}
 use Rattle.guest_view.specs.Promises.{memory_leaf, Ordered, Backed, InMemory, Within, place_in}
-use Rattle.virtqueue.specs.Promises.{UsedIn, Takes}
+use Rattle.virtqueue.specs.Promises.{UsedIn, Ready}
 use Rattle.virtqueue.specs.declared.queue.SplitQueue.{SplitQueue}
-use Rattle.virtqueue.specs.declared.take.TakenOffer.{TakenOffer}
-use Rattle.virtqueue.specs.declared.take.TakenOffer.TheVariants as offer
-use Rattle.virtqueue.specs.declared.step.StepOutcome.TheVariants.{Refused, Idle, Served}
+use Rattle.virtqueue.specs.declared.queue.QueueStop.{QueueStop}
+use Rattle.virtqueue.specs.declared.chain.Gathered.{Gathered}
+use Rattle.virtqueue.specs.declared.step.StepFault.TheVariants.{Stopped, Record}
 use Rattle.virtqueue.specs.declared.step.Moved.{Moved}
 use Rattle.device_words.specs.Words.{device_of, device_words, device_length}
 use Rattle.virtqueue.specs.Does.{DoesIn}
 use Rattle.virtqueue.proofs.DeviceLaws.{laid_back}
 use Rattle.guest_view.proofs.GuestLaws.{all_memory, reach_memory, place_below}
-use Rattle.virtqueue.proofs.QueueLaws.{queue_facts}
 use Rattle.virtqueue.proofs.WayLaws.{way_along}
 use Rattle.virtqueue.proofs.ReachedLaws.{Every, every_append, every_weaken, Reaches, every_byte, every_writable, chain_judged}
 use Rattle.guest_view.proofs.RuleLaws.{view_ordered, view_backed}
 
--- the stores that make the used ring's bytes, and the copies that make their places
-pub used_stored : (h n count : ℕ) → h < 65536 → n ≡ next_index count
-    → set (set (set (set (set (replicate 10 0) 0 (h % 256)) 1 (h / 256)) 4 10) 8 (n % 256)) 9 (n / 256) ≡ used_bytes count h
-unfolding used_bytes le
-used_stored h n count l e =
-    let p : h / 256 % 256 ≡ h / 256 = mod-eq_of_lt (omega arith) in
-    let q : h / 256 / 256 ≡ 0 = omega arith in
-    let r : n / 256 % 256 ≡ n / 256 = mod-eq_of_lt (omega arith) in
-    rw (← e, p, q, r)
-
-pub used_bytes_length : (count h : ℕ) → length (used_bytes count h) ≡ 10
-unfolding used_bytes le
-used_bytes_length count h = refl
-
+-- the copies that make the used ring's places
 pub used_laid : (place : ℕ → ℕ) (q : SplitQueue) (out : List ℕ) → length out ≡ 10
     → sets (sets out 0 (map place (addresses (used_entry q) 8))) 8 (map place (addresses (used_idx q) 2)) ≡ used_places place q
 unfolding used_places addresses
@@ -135,74 +121,39 @@ ready_within v d memory q h c n b e =
     (every_weaken (Reaches r) (InView v) (λ a l. reach_memory (plugged_at d) (leaf_at (entries v) a) l) (first_bytes 10 (writable c))
     (every_byte r 10 (writable c) (every_writable r c (chain_judged (by_view v d) memory q.descriptors.0 q.size h)))))
 
--- the offer that the reading half's answer stands for, and what the step then comes to
-module _ (g : Guest) (memory : List ℕ) (request places : List ℕ) where
-  pub taken_stop : (x : Offer) (t : TakenOffer) (k : ℕ) → Takes g memory x t request places → t ≡ offer.Stop k → x ≡ stop k
-  taken_stop (stop j) t k h e = ap stop (let z : j ≡ k = cc in z)
-  taken_stop nothing t k h e = absurd (let z : ◌≡◌ {A = ℕ} 0 1 = cc in omega arith)
-  taken_stop (ready j b c) t k h e = absurd (let f = h.0 in let z : ◌≡◌ {A = ℕ} 0 1 = cc in omega arith)
-
-  pub taken_idle : (x : Offer) (t : TakenOffer) → Takes g memory x t request places → t ≡ offer.Idle → x ≡ nothing
-  taken_idle (stop j) t h e = absurd (let z : ◌≡◌ {A = ℕ} 0 1 = cc in omega arith)
-  taken_idle nothing t h e = refl
-  taken_idle (ready j b c) t h e = absurd (let f = h.0 in let z : ◌≡◌ {A = ℕ} 0 1 = cc in omega arith)
-
-  pub record TakenReady (x : Offer) (h : ℕ) (notify : Bool) : Type 0 where
-    pub chain : Chain
-    pub is : x ≡ ready h notify chain
-    pub its_request : request ≡ request_bytes g.place memory chain
-    pub its_places : places ≡ response_places g.place chain
-
-  pub taken_ready : (x : Offer) (t : TakenOffer) (h : ℕ) (notify : Bool) → Takes g memory x t request places → t ≡ offer.Ready h notify → TakenReady x h notify
-  taken_ready (stop j) t h notify w e = absurd (let z : ◌≡◌ {A = ℕ} 0 1 = cc in omega arith)
-  taken_ready nothing t h notify w e = absurd (let z : ◌≡◌ {A = ℕ} 0 1 = cc in omega arith)
-  taken_ready (ready j b c) t h notify w e =
-      let f = w.0 in
-      let p : j ≡ h = cc in
-      let q : b ≡ notify = cc in
-      record { chain = c; is = rw (p, q); its_request = w.1; its_places = w.2 }
-
 -- What a step on records that were judged leaves: the answer, the device's words and memory.
 abbrev pub Left : FlatView → List ℕ → SplitQueue → List ℕ → Moved → List ℕ → List ℕ → Type 0
 Left v w q memory r device m = DoesIn w (stepped_by (by_view v (device_of w)) (device_of w) q memory) r device m
 
-module _ (v : FlatView) (w : List ℕ) (l : length w ≡ device_length) (q : SplitQueue) (memory : List ℕ) (t : TakenOffer) (request places : List ℕ)
-    (took : Takes (by_view v (device_of w)) memory (offered (by_view v (device_of w)) memory q) t request places) where
+module _ (v : FlatView) (w : List ℕ) (l : length w ≡ device_length) (q : SplitQueue) (memory : List ℕ) where
   abbrev d : MemoryDevice
   d = device_of w
 
-  pub judged_stop : (k : ℕ) (p : SplitQueue) → t ≡ offer.Stop k → p ≡ stopped_by q k → Left v w q memory (record { outcome = Refused k; queue = p }) w memory
+  pub judged_stop : (s : QueueStop) (p : SplitQueue) → offered (by_view v d) memory q ≡ stop (stop_number s) → p ≡ stopped_by q (stop_number s)
+      → Left v w q memory (record { outcome = Err (Stopped s); queue = p }) w memory
   unfolding stepped_by
-  judged_stop k p e f =
-      rw (f, taken_stop (by_view v d) memory request places (offered (by_view v d) memory q) t k took e) (refl, refl, sym (laid_back w), refl)
+  judged_stop s p o f = rw (f, o) (refl, refl, sym (laid_back w), refl)
 
-  pub judged_idle : t ≡ offer.Idle → Left v w q memory (record { outcome = Idle; queue = q }) w memory
+  pub judged_idle : offered (by_view v d) memory q ≡ nothing → Left v w q memory (record { outcome = Ok None; queue = q }) w memory
   unfolding stepped_by
-  judged_idle e =
-      rw (taken_idle (by_view v d) memory request places (offered (by_view v d) memory q) t took e) (refl, refl, sym (laid_back w), refl)
+  judged_idle o = rw o (refl, refl, sym (laid_back w), refl)
 
-  module _ (h : ℕ) (notify : Bool) (e : t ≡ offer.Ready h notify) where
-    judged : TakenReady (by_view v d) memory request places (offered (by_view v d) memory q) h notify
-    judged = taken_ready _ _ _ _ _ t h notify took e
-
-    readied : Readied (by_view v d) memory q h judged.chain
-    readied = offer_ready (by_view v d) memory q h notify judged.chain judged.is
+  module _ (h : ℕ) (notify : Bool) (t : Gathered) (r : Ready (by_view v d) memory (offered (by_view v d) memory q) h notify t) where
+    readied : Readied (by_view v d) memory q h r.chain
+    readied = offer_ready (by_view v d) memory q h notify r.chain r.is
 
     pub judged_used : UsedIn v q
     judged_used = used_in v d q readied.used
 
-    pub judged_within : (n : ℕ) → Backed v n → Within places n
-    judged_within n b = rw judged.its_places (ready_within v d memory q h judged.chain n b readied.chain)
-
-    pub judged_low : queue_ok q ≡ true → h < 65536
-    judged_low k = omega (arith, readied.low, (queue_facts q k).most)
+    pub judged_within : (n : ℕ) → Backed v n → Within t.places n
+    judged_within n b = rw r.places (ready_within v d memory q h r.chain n b readied.chain)
 
     pub judged_ready : (p : SplitQueue) (used bytes device m : List ℕ) → p ≡ advanced q → used ≡ used_places (place_in v) q → bytes ≡ used_bytes q.next_used h
-        → device ≡ device_words (carrying d request).device → m ≡ served_memory memory places (carrying d request).response used bytes
-        → Left v w q memory (record { outcome = Served notify; queue = p }) device m
+        → device ≡ device_words (carrying d t.request).device → m ≡ served_memory memory t.places (carrying d t.request).response used bytes
+        → Left v w q memory (record { outcome = Ok (Some (record { notify = notify })); queue = p }) device m
     unfolding stepped_by
     judged_ready p used bytes device m f x y z u =
-        rw (judged.is, ← judged.its_request, ← judged.its_places, eq-eqb (length w) device_length l, f, z, u, x, y) (refl, refl, refl, refl)
+        rw (r.is, ← r.request, ← r.places, eq-eqb (length w) device_length l, f, z, u, x, y) (refl, refl, refl, refl)
 
 -- 27's rules, and the step on records that keep them or not
 pub record RecordFacts (v : FlatView) (d : MemoryDevice) (q : SplitQueue) (n : ℕ) : Type 0 where
@@ -233,6 +184,6 @@ module _ (v : FlatView) (w : List ℕ) (q : SplitQueue) (memory : List ℕ) wher
   unfolding stepped
   step_judged h r device m l = rw h l
 
-  pub step_refused : records_ok v (device_of w) q (length memory) ≡ false → LeftAny v w q memory (record { outcome = Refused 27; queue = q }) w memory
+  pub step_refused : records_ok v (device_of w) q (length memory) ≡ false → LeftAny v w q memory (record { outcome = Err Record; queue = q }) w memory
   unfolding stepped
   step_refused h = rw h (refl, refl, sym (laid_back w), refl)

@@ -6,7 +6,7 @@ use Rattle.region_map.specs.Flatten.{backing_of, flat_list, view_holding}
 use Rattle.map_records.specs.View.{no_range, entries, offset_in}
 use Rattle.map_records.specs.declared.map.RegionMap.{RegionMap}
 use Rattle.map_records.specs.declared.view.FlatRange.{FlatRange}
-use Rattle.region_map.specs.declared.resolve.Resolved.TheVariants.{Nothing}
+use Rattle.std.specs.Prelude.{None}
 use Rattle.region_map.proofs.Demand3.{demand3_first_half}
 use Rattle.region_map.proofs.UniqueLaws.{entry_at}
 use Rattle.region_map.proofs.ListLaws.{read_off}
@@ -20,7 +20,7 @@ entry_leaf m x a e = ap₂ (λ (k b : ℕ). leaf x.region k b (offset_in x a)) e
 
 -- a list of longest runs gives each address the leaf of what it gives it
 pub list_leaf : (m : RegionMap) (l : List FlatRange) (a : ℕ) → Longest (backing_of m) l → leaf_at l a ≡ leaf_of m (lookup l a)
-list_leaf m l a c = read_off Nothing range_answer (leaf_of m) leaf_in l a (λ k h. entry_leaf m (get_or l k no_range) a (entry_at (backing_of m) l k c h))
+list_leaf m l a c = read_off None range_answer (leaf_of m) leaf_in l a (λ k h. entry_leaf m (get_or l k no_range) a (entry_at (backing_of m) l k c h))
 
 module _ (m : RegionMap) (memory : ℕ) (ok : Accepted m memory) (few : length (flat_list m) ≤ 256) where
   pub view_leaf : (a : ℕ) → leaf_at (entries (view_holding (flat_list m))) a ≡ tree_leaf m a

@@ -10,8 +10,8 @@ use Rattle.map_check.specs.Check.{Accepted}
 use Rattle.map_check.specs.Reply.{accepted}
 use Rattle.region_map.specs.Walk.{walk_root}
 use Rattle.region_map.specs.Flatten.{flat_list, view_holding, flattened_into}
-use Rattle.region_map.specs.declared.resolve.Resolved.{Resolved}
-use Rattle.region_map.specs.declared.resolve.Resolved.TheVariants.{Nothing, At}
+use Rattle.std.specs.Prelude.{Option, None, Some}
+use Rattle.map_records.specs.declared.map.Found.{Found}
 use Rattle.region_map.proofs.LeafLaws.{root_leaf}
 use Rattle.device_words.specs.Table.{all_below}
 use Rattle.device_words.specs.Device.{MemoryDevice, device_ok, plugged_at}
@@ -39,9 +39,9 @@ module _ (m : RegionMap) (size : ℕ) (ok : Accepted m size) (few : length (flat
   plain_reach : (p : ℕ → Bool) (a : ℕ) → reach_leaf p (tree_leaf m a) ≡ reach_leaf (λ o. false) (tree_leaf m a)
   plain_reach p a = go (walk_root m a) refl
     where
-      go : (x : Resolved) → walk_root m a ≡ x → reach_leaf p (leaf_of m x) ≡ reach_leaf (λ o. false) (leaf_of m x)
-      go Nothing e = refl
-      go (At n o) e = rw (ne_eqb (region m n).kind managed (none n (root_leaf m size ok a n o e).below))
+      go : (x : Option Found) → walk_root m a ≡ x → reach_leaf p (leaf_of m x) ≡ reach_leaf (λ o. false) (leaf_of m x)
+      go None e = refl
+      go (Some f) e = rw (ne_eqb (region m f.region).kind managed (none f.region (root_leaf m size ok a f e).below))
 
   plain_guest : (d : MemoryDevice) → by_tree m d ≡ ram_guest m
   plain_guest d = λ i. record { reach = fun_ext (plain_reach (plugged_at d)) i; place = λ a. place_leaf (tree_leaf m a) }

@@ -1,5 +1,6 @@
 -- The way of a step: where it leads by what is met, and what is known of one that goes along a chain. Assumes nothing.
 use Rattle.std.proofs.Common.{◌≡◌, ℕ, ◌<◌, ◌≤◌, Bool, true, false, cond, eqb, ltb, leb, List, sym, refl, ap, ◌∙◌, arith, ltb-true, le-ltb, lt-ltb, eq-eqb, ne_eqb, le-leb}
+use Rattle.std.specs.Prelude.{Some, None, Ok, Err}
 use borrow.Author.Tests.{lt-leb}
 use Rattle.guest_view.specs.Guest.{Guest, all_reach}
 use Rattle.virtqueue.specs.Queue.{ring_entry}
@@ -7,8 +8,7 @@ use Rattle.virtqueue.specs.Chain.{Chain}
 use Rattle.virtqueue.specs.Step.{halted, quiet, along, unless, flags, idx, entry, offers, notifies, chain_of, way_of}
 use Rattle.virtqueue.specs.Promises.{notices_of, head_of, head_way, notices_way}
 use Rattle.virtqueue.specs.declared.queue.SplitQueue.{SplitQueue}
-use Rattle.virtqueue.specs.declared.take.AvailableNotices.TheVariants as notices
-use Rattle.virtqueue.specs.declared.take.HeadEntry.TheVariants as head
+use Rattle.virtqueue.specs.declared.queue.QueueStop.TheVariants as stops
 
 module _ (g : Guest) (memory : List ℕ) (q : SplitQueue) where
   pub way_stopped : (q.stop ≡ 0 → ⊥) → way_of g memory q ≡ halted q.stop
@@ -55,14 +55,14 @@ module _ (g : Guest) (memory : List ℕ) (q : SplitQueue) where
     where
       by_head : (r h : Bool)
           → unless r 17 (unless h 19 (along (entry g memory q) (notifies (flags g memory q)) (chain_of g memory q (entry g memory q))))
-          ≡ head_way g memory q (notifies (flags g memory q)) (cond r (cond h (head.At (entry g memory q)) (head.Stop 19)) (head.Stop 17))
+          ≡ head_way g memory q (notifies (flags g memory q)) (cond r (cond h (Ok (entry g memory q)) (Err stops.Head)) (Err stops.Ring))
       by_head true true = refl
       by_head true false = refl
       by_head false h = refl
 
       go : (x y z : Bool)
           → unless x 17 (cond y quiet (unless z 18 (unless (all_reach g.reach (ring_entry q) 2) 17 (unless (ltb (entry g memory q) q.size) 19 (along (entry g memory q) (notifies (flags g memory q)) (chain_of g memory q (entry g memory q)))))))
-          ≡ notices_way g memory q (cond x (cond y notices.Idle (cond z (notices.Offered (notifies (flags g memory q))) (notices.Stop 18))) (notices.Stop 17))
+          ≡ notices_way g memory q (cond x (cond y (Ok None) (cond z (Ok (Some (notifies (flags g memory q)))) (Err stops.Ahead))) (Err stops.Ring))
       go true true z = refl
       go true false true = by_head (all_reach g.reach (ring_entry q) 2) (ltb (entry g memory q) q.size)
       go true false false = refl

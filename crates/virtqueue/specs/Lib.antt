@@ -7,5 +7,6 @@ pub mod SecondHalf
 pub mod Unmanaged
 pub mod Calls
 pub mod Causes
+pub mod Lent
 pub mod Promises
 pub mod Worked

@@ -1,12 +1,13 @@
 -- The split queue's record: 16, 27, making and reset, and where its areas lie. Assumes nothing: these are definitions.
-use Rattle.std.specs.Prelude.{ℕ, ◌+◌, ◌-◌, ◌*◌, ◌%◌, Bool, cond, ◌&&◌, ◌||◌, ◌==◌, nat_le}
+use Rattle.std.specs.Prelude.{◌≡◌, ℕ, ◌+◌, ◌-◌, ◌*◌, ◌%◌, Bool, cond, ◌&&◌, ◌||◌, ◌==◌, nat_le, Result, Ok, Err, Option, MatchOption}
 use Rattle.map_records.specs.Limits.{limit}
 use Rattle.map_check.specs.Reply.{Reply, accepted, plain}
 use Rattle.map_records.specs.Refusal as refusal
 use Rattle.virtqueue.specs.declared.queue.SplitQueue.{SplitQueue}
-use Rattle.virtqueue.specs.declared.queue.QueueAnswer.{QueueAnswer}
-use Rattle.virtqueue.specs.declared.queue.QueueAnswer.TheVariants as answer
-use Rattle.virtqueue.specs.declared.queue.QueueGiven.{QueueGiven}
+use Rattle.virtqueue.specs.declared.queue.QueueFault.{QueueFault}
+use Rattle.virtqueue.specs.declared.queue.QueueStop.{QueueStop}
+use Rattle.virtqueue.specs.declared.queue.QueueStop.TheVariants as stop
+use Rattle.map_check.specs.declared.answer.RecordFault.{RecordFault}
 
 -- 16: 'queue size not a power of two from 1 to 256'
 abbrev pub largest_queue : ℕ
@@ -70,14 +71,32 @@ made size descriptors available used =
 unfoldable pub was_reset : SplitQueue → Given
 was_reset q = cond (queue_ok q) (record { reply = accepted; queue = cleared q }) (record { reply = plain refusal.RECORD; queue = q })
 
--- document 01's number for each answer
-abbrev pub queue_reply : QueueAnswer → Reply
-queue_reply answer.Done = accepted
-queue_reply answer.Queue = plain refusal.QUEUE
-queue_reply answer.Record = plain refusal.RECORD
+-- document 01's reply for each fault
+abbrev pub queue_fault_reply : QueueFault → Reply
+queue_fault_reply f = plain refusal.QUEUE
 
-abbrev pub given_by : QueueGiven → Given
-given_by g = record { reply = queue_reply g.answer; queue = g.queue }
+abbrev pub record_fault_reply : RecordFault → Reply
+record_fault_reply f = plain refusal.RECORD
+
+-- a call that makes a record returned r, where `left` stands for the record of a refusal
+abbrev pub given_by : {E : Type 0} → (E → Reply) → SplitQueue → Result SplitQueue E → Given
+given_by fault left (Ok q) = record { reply = accepted; queue = q }
+given_by fault left (Err e) = record { reply = fault e; queue = left }
+
+-- document 01's number for each of what stops a queue, and what a number stands for
+abbrev pub stop_number : QueueStop → ℕ
+stop_number stop.Ring = refusal.RING
+stop_number stop.Ahead = refusal.AHEAD
+stop_number stop.Head = refusal.HEAD
+stop_number stop.Chain = refusal.CHAIN
+stop_number stop.Reach = refusal.REACH
+stop_number stop.Shape = refusal.SHAPE
+
+abbrev pub stop_reply : QueueStop → Reply
+stop_reply s = plain (stop_number s)
+
+abbrev pub StopOf : ℕ → Option QueueStop → Type 0
+StopOf n r = MatchOption r ((s : QueueStop) → n ≡ stop_number s → ⊥) (λ s. n ≡ stop_number s)
 
 -- VIRTIO 2.6.6 and 2.6.8: a ring has flags and idx of two bytes each, then its entries, of which a count takes its own modulo the size, and behind them two bytes of an event index, which 16 counts and the device does not use; places by the ring's address, a count and the size
 abbrev pub ring_entry_at : ℕ → ℕ → ℕ → ℕ

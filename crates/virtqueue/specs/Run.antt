@@ -1,5 +1,5 @@
 -- A run of k steps. Assumes nothing: these are definitions.
-use Rattle.std.specs.Prelude.{◌≡◌, ℕ, zero, suc, ◌+◌, min, Bool, false, cond, ◌||◌, List, length}
+use Rattle.std.specs.Prelude.{◌≡◌, ℕ, zero, suc, ◌+◌, min, Bool, false, cond, ◌||◌, List, length, Result, Ok, Err}
 use Rattle.map_records.specs.Refusal as refusal
 use Rattle.map_records.specs.declared.view.FlatView.{FlatView}
 use Rattle.map_check.specs.Reply.{Reply, accepted, plain}
@@ -7,8 +7,9 @@ use Rattle.device_words.specs.Device.{MemoryDevice}
 use Rattle.guest_view.specs.Guest.{by_view}
 use Rattle.virtqueue.specs.Step.{Answer, refused, served, Effect, stepped_by, records_ok, stepped}
 use Rattle.virtqueue.specs.Step as step
-use Rattle.virtqueue.specs.Does.{laid}
+use Rattle.virtqueue.specs.Does.{step_fault, laid}
 use Rattle.virtqueue.specs.declared.queue.SplitQueue.{SplitQueue}
+use Rattle.virtqueue.specs.declared.step.StepFault.{StepFault}
 use Rattle.virtqueue.specs.declared.run.RunEnd.{RunEnd}
 use Rattle.virtqueue.specs.declared.run.RunEnd.TheVariants as end
 use Rattle.virtqueue.specs.declared.run.Ran.{Ran}
@@ -65,10 +66,10 @@ abbrev pub judged_step : FlatView → MemoryDevice → SplitQueue → List ℕ �
 judged_step v d q memory = stepped_by (by_view v d) d q memory
 
 -- document 01's end for each end of the code
-abbrev pub run_end_of : RunEnd → End
-run_end_of end.AllDone = all_done
-run_end_of end.Idle = went_idle
-run_end_of (end.Refused n) = refused_by n
+abbrev pub run_end_of : Result RunEnd StepFault → End
+run_end_of (Ok end.AllDone) = all_done
+run_end_of (Ok end.Idle) = went_idle
+run_end_of (Err f) = refused_by (step_fault f)
 
 -- a run over a device in the words w returned r, and left the words `device` and memory, as e says
 abbrev pub RunDoes : List ℕ → RunEffect → Ran → List ℕ → List ℕ → Type 0

@@ -7,12 +7,11 @@ ghost use Rattle.virtqueue.specs.Does.{DoesIn};
 
 use crate::queue::SplitQueue;
 use crate::serve::step_judged;
-use crate::step::{Moved, StepOutcome};
+use crate::step::{Moved, StepFault};
 use device_words::rules::device_ok;
 use device_words::words::{DEVICE_WORDS, region_size};
 use guest_view::find::near;
 use guest_view::rules::view_ok;
-use map_records::refusal;
 
 // Do the three records keep 27's rules, over a memory of this length?
 pub fn records_ok(view: &[u64], device: &[u64], queue: SplitQueue, memory_length: u64) -> bool
@@ -36,7 +35,7 @@ pub fn step_in_place(view: &[u64], device: &mut [u64], queue: SplitQueue, mem: &
         return step_judged(view, device, queue, mem, hint);
     }
     Moved {
-        outcome: StepOutcome::Refused(refusal::RECORD as u8),
-        queue: queue,
+        outcome: Err(StepFault::Record),
+        queue,
     }
 }

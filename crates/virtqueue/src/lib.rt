@@ -2,6 +2,7 @@
 #![tactic(auto)]
 
 mod chain;
+mod guest;
 pub mod in_place;
 pub mod queue;
 mod ring;

@@ -1,14 +1,18 @@
 // The device side's record of a split queue.
 ghost use Rattle.std.specs.Prelude.{◌≡◌, ◌<◌};
-ghost use Rattle.map_check.specs.Reply.{number_of};
-ghost use Rattle.virtqueue.specs.Queue.{size_ok, area_ok, areas_ok, stop_ok, queue_ok, no_queue, made, was_reset, queue_reply, given_by};
+ghost use Rattle.map_records.specs.Refusal.{number};
+ghost use Rattle.map_check.specs.Reply.{Reply, number_of};
+ghost use Rattle.virtqueue.specs.Queue.{size_ok, area_ok, areas_ok, queue_ok, no_queue, made, was_reset, given_by};
+ghost use Rattle.virtqueue.specs.Queue.{queue_fault_reply, record_fault_reply, stop_reply, stop_number, StopOf, stopped_by, advanced};
 
+use map_check::answer::{Fault, RecordFault};
 use map_records::map::GuestAddress;
 use map_records::numbers::{LIMIT, sum_within};
-use map_records::refusal;
+use map_records::refusal::Refusal;
 
 // The queue's size and areas, the two free-running indices, and the stop: 0 for none, or document 01's
-// number. `next_available` is what document 01 calls seen, `next_used` its own count.
+// number, as it was given, since 27 judges it. `next_available` is what document 01 calls seen, `next_used` its
+// own count.
 #[derive(Clone, Copy)]
 pub struct SplitQueue {
     pub size: u16,
@@ -20,19 +24,42 @@ pub struct SplitQueue {
     pub stop: u8,
 }
 
-// Done, or the refusal 16 or 27 of document 01.
-#[derive(Clone, Copy)]
-pub enum QueueAnswer {
-    Done,
-    Queue,
-    Record,
+// 16: a size or an area that breaks its rules.
+#[derive(Clone, Copy, Debug, PartialEq, Eq)]
+pub struct QueueFault;
+
+impl Fault for QueueFault {
+    ghost reply = { queue_fault_reply };
+
+    fn refusal(self) -> Refusal {
+        Refusal::Queue
+    }
 }
 
-// The answer and the record: zeros where none was made, the one given where a reset is refused.
-#[derive(Clone, Copy)]
-pub struct QueueGiven {
-    pub answer: QueueAnswer,
-    pub queue: SplitQueue,
+// What stops a queue: 17 to 22, in the order of their numbers.
+#[derive(Clone, Copy, Debug, PartialEq, Eq)]
+pub enum QueueStop {
+    Ring,
+    Ahead,
+    Head,
+    Chain,
+    Reach,
+    Shape,
+}
+
+impl Fault for QueueStop {
+    ghost reply = { stop_reply };
+
+    fn refusal(self) -> Refusal {
+        match self {
+            QueueStop::Ring => Refusal::Ring,
+            QueueStop::Ahead => Refusal::Ahead,
+            QueueStop::Head => Refusal::Head,
+            QueueStop::Chain => Refusal::Chain,
+            QueueStop::Reach => Refusal::Reach,
+            QueueStop::Shape => Refusal::Shape,
+        }
+    }
 }
 
 // The largest size.
@@ -42,15 +69,7 @@ const LARGEST: u64 = 256;
 fn size_ok(n: u64) -> bool
     ensures { result ≡ size_ok n }
 {
-    (n == 1)
-        | (n == 2)
-        | (n == 4)
-        | (n == 8)
-        | (n == 16)
-        | (n == 32)
-        | (n == 64)
-        | (n == 128)
-        | (n == LARGEST)
+    n.is_power_of_two() & (n <= LARGEST)
 }
 
 // Is an area aligned, with its end in the address space?
@@ -65,31 +84,10 @@ fn area_ok(start: u64, align: u64, bytes: u64) -> bool
 fn areas_ok(size: u16, descriptors: u64, available: u64, used: u64) -> bool
     ensures { result ≡ areas_ok size descriptors available used }
 {
-    let n = size as u64;
+    let n = u64::from(size);
     size_ok(n)
         & (area_ok(descriptors, 16, 16 * n)
             & (area_ok(available, 2, 6 + 2 * n) & area_ok(used, 4, 6 + 8 * n)))
-}
-
-fn stop_ok(stop: u8) -> bool
-    ensures { result ≡ stop_ok stop }
-{
-    (stop == 0) | ((refusal::RING <= stop) & (stop <= refusal::SHAPE))
-}
-
-// The record of no queue.
-fn no_queue() -> SplitQueue
-    ensures { result ≡ no_queue }
-{
-    SplitQueue {
-        size: 0,
-        descriptors: GuestAddress(0),
-        available: GuestAddress(0),
-        used: GuestAddress(0),
-        next_available: 0,
-        next_used: 0,
-        stop: 0,
-    }
 }
 
 // A queue of a size and three areas, with its indices at 0.
@@ -98,27 +96,21 @@ pub fn make_queue(
     descriptors: GuestAddress,
     available: GuestAddress,
     used: GuestAddress,
-) -> QueueGiven
-    ensures { given_by result ≡ made size descriptors.0 available.0 used.0 }
+) -> Result<SplitQueue, QueueFault>
+    ensures { given_by queue_fault_reply no_queue result ≡ made size descriptors.0 available.0 used.0 }
 {
-    if areas_ok(size, descriptors.0, available.0, used.0) {
-        return QueueGiven {
-            answer: QueueAnswer::Done,
-            queue: SplitQueue {
-                size: size,
-                descriptors: descriptors,
-                available: available,
-                used: used,
-                next_available: 0,
-                next_used: 0,
-                stop: 0,
-            },
-        };
+    if !areas_ok(size, descriptors.0, available.0, used.0) {
+        return Err(QueueFault);
     }
-    QueueGiven {
-        answer: QueueAnswer::Queue,
-        queue: no_queue(),
-    }
+    Ok(SplitQueue {
+        size,
+        descriptors,
+        available,
+        used,
+        next_available: 0,
+        next_used: 0,
+        stop: 0,
+    })
 }
 
 impl SplitQueue {
@@ -126,37 +118,58 @@ impl SplitQueue {
     pub fn keeps_rules(self) -> bool
         ensures { result ≡ queue_ok self }
     {
-        areas_ok(self.size, self.descriptors.0, self.available.0, self.used.0) & stop_ok(self.stop)
+        areas_ok(self.size, self.descriptors.0, self.available.0, self.used.0)
+            & ((self.stop == 0) | self.stopped().is_some())
+    }
+
+    // What stops it, if it is stopped.
+    pub fn stopped(self) -> Option<QueueStop>
+        ensures { StopOf self.stop result }
+    {
+        match self.stop {
+            17 => Some(QueueStop::Ring),
+            18 => Some(QueueStop::Ahead),
+            19 => Some(QueueStop::Head),
+            20 => Some(QueueStop::Chain),
+            21 => Some(QueueStop::Reach),
+            22 => Some(QueueStop::Shape),
+            _ => None,
+        }
+    }
+
+    // The queue stopped, with the number of what stops it.
+    pub fn stopped_by(self, stop: QueueStop) -> SplitQueue
+        ensures { result ≡ stopped_by self (stop_number stop) }
+    {
+        SplitQueue {
+            stop: stop.refusal().number(),
+            ..self
+        }
+    }
+
+    // The queue with one chain taken and returned.
+    pub fn advanced(self) -> SplitQueue
+        ensures { result ≡ advanced self }
+    {
+        SplitQueue {
+            next_available: self.next_available.wrapping_add(1),
+            next_used: self.next_used.wrapping_add(1),
+            ..self
+        }
     }
 
     // A queue reset: the indices at 0 and the stop cleared.
-    pub fn reset(self) -> QueueGiven
-        ensures { given_by result ≡ was_reset self }
+    pub fn reset(self) -> Result<SplitQueue, RecordFault>
+        ensures { given_by record_fault_reply self result ≡ was_reset self }
     {
-        if self.keeps_rules() {
-            let mut fresh = self;
-            fresh.next_available = 0;
-            fresh.next_used = 0;
-            fresh.stop = 0;
-            return QueueGiven {
-                answer: QueueAnswer::Done,
-                queue: fresh,
-            };
+        if !self.keeps_rules() {
+            return Err(RecordFault);
         }
-        QueueGiven {
-            answer: QueueAnswer::Record,
-            queue: self,
-        }
-    }
-}
-
-// Document 01's number of the refusal, and 0 where the call is done.
-pub fn number_of(answer: QueueAnswer) -> u64
-    ensures { result ≡ number_of (queue_reply answer) }
-{
-    match answer {
-        QueueAnswer::Done => 0,
-        QueueAnswer::Queue => refusal::QUEUE,
-        QueueAnswer::Record => refusal::RECORD,
+        Ok(SplitQueue {
+            next_available: 0,
+            next_used: 0,
+            stop: 0,
+            ..self
+        })
     }
 }

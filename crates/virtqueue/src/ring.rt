@@ -10,16 +10,16 @@ pub fn ring_entry(available: GuestAddress, count: u16, size: u16) -> GuestAddres
     requires { (available.0 ≤ limit) × (0 < size) }
     ensures { result.0 ≡ ring_entry_at available.0 count size }
 {
-    let slot = (count % size) as u64;
+    let slot = u64::from(count % size);
     GuestAddress(available.0 + 4 + 2 * slot)
 }
 
-// The used ring's.
+// The used ring's. VIRTIO gives each ring a layout of its own, so there is no one function of an entry's size.
 pub fn used_entry(used: GuestAddress, count: u16, size: u16) -> GuestAddress
     requires { (used.0 ≤ limit) × (0 < size) }
     ensures { result.0 ≡ used_entry_at used.0 count size }
 {
-    let slot = (count % size) as u64;
+    let slot = u64::from(count % size);
     GuestAddress(used.0 + 4 + 8 * slot)
 }
 

@@ -8,20 +8,17 @@ ghost use Rattle.virtqueue.specs.Promises.{refused_run};
 use crate::in_place::records_ok;
 use crate::queue::SplitQueue;
 use crate::serve::step_judged;
-use crate::step::StepOutcome;
+use crate::step::{Moved, StepFault};
 use guest_view::find::near;
-use map_records::numbers::least;
-use map_records::refusal;
 
 // The most steps of a run.
 const STEPS: u64 = 256;
 
-// All steps were served, or the first that was not was idle or refused.
-#[derive(Clone, Copy)]
+// All steps were served, or the first that was not was idle.
+#[derive(Clone, Copy, Debug, PartialEq, Eq)]
 pub enum RunEnd {
     AllDone,
     Idle,
-    Refused(u8),
 }
 
 // How many steps were served, whether one of them notified, the end, and the queue's next state.
@@ -29,7 +26,7 @@ pub enum RunEnd {
 pub struct Ran {
     pub served: u64,
     pub notified: bool,
-    pub end: RunEnd,
+    pub end: Result<RunEnd, StepFault>,
     pub queue: SplitQueue,
 }
 
@@ -40,8 +37,8 @@ fn refused_run(queue: SplitQueue) -> Ran
     Ran {
         served: 0,
         notified: false,
-        end: RunEnd::Refused(refusal::RECORD as u8),
-        queue: queue,
+        end: Err(StepFault::Record),
+        queue,
     }
 }
 
@@ -54,35 +51,32 @@ pub fn run_steps(view: &[u64], device: &mut [u64], queue: SplitQueue, mem: &mut 
     if !records_ok(view, device, queue, mem.len() as u64) {
         return refused_run(queue);
     }
-    let mut queue_now = queue;
-    let mut served: u64 = 0;
-    let mut notified = false;
-    let mut end = RunEnd::AllDone;
-    let most = least(k, STEPS);
+    let mut ran = Ran {
+        served: 0,
+        notified: false,
+        end: Ok(RunEnd::AllDone),
+        queue,
+    };
+    let most = k.min(STEPS);
     let hint = near(view, 0, queue.available);
-    while served < most {
-        let s = step_judged(view, device, queue_now, mem, hint);
-        queue_now = s.queue;
-        let outcome = s.outcome;
+    // A loop: each step goes on from what the one before left, and the first that is not served ends it.
+    for _done in 0..most {
+        let Moved { outcome, queue } = step_judged(view, device, ran.queue, mem, hint);
+        ran.queue = queue;
         match outcome {
-            StepOutcome::Refused(n) => {
-                end = RunEnd::Refused(n);
+            Ok(Some(chain)) => {
+                ran.served += 1;
+                ran.notified = ran.notified | chain.notify;
+            }
+            Ok(None) => {
+                ran.end = Ok(RunEnd::Idle);
                 break;
             }
-            StepOutcome::Idle => {
-                end = RunEnd::Idle;
+            Err(fault) => {
+                ran.end = Err(fault);
                 break;
-            }
-            StepOutcome::Served(notify) => {
-                served += 1;
-                notified = notified | notify;
             }
         }
     }
-    Ran {
-        served: served,
-        notified: notified,
-        end: end,
-        queue: queue_now,
-    }
+    ran
 }

@@ -1,184 +1,108 @@
 // The reading half of a step, in document 01's order.
-ghost use Rattle.std.specs.Prelude.{◌≡◌, ◌<◌, true, length};
-ghost use Rattle.guest_view.specs.Promises.{Judged};
+ghost use Rattle.std.specs.Prelude.{◌≡◌, ◌<◌, true};
 ghost use Rattle.virtqueue.specs.Queue.{queue_ok};
 ghost use Rattle.virtqueue.specs.Step.{used_reached};
-ghost use Rattle.virtqueue.specs.Promises.{guest_in, Lent, Taking, notices_of, head_of, TakesChain, TakesAll, shape_from};
-ghost use Rattle.device_words.specs.Table.{table_length};
+ghost use Rattle.virtqueue.specs.Promises.{guest_of, nothing_yet, notices_of, head_of, TakesIn, TakesAll};
 
-use crate::chain::{Gathered, gather};
-use crate::queue::SplitQueue;
+use crate::chain::Gathered;
+use crate::guest::Guest;
+use crate::queue::{QueueStop, SplitQueue};
 use crate::ring::{ring_entry, used_entry, used_idx};
-use device_words::bytes::{REQUEST_BYTES, RESPONSE_BYTES};
-use guest_view::memory::read_number;
-use guest_view::reach::reaches;
 use map_records::map::GuestAddress;
-use map_records::refusal;
 
-// What the available ring's flags and idx say: a stop, nothing offered, or whether to notify.
+// A chain that is ready: its head, and whether to notify the guest.
 #[derive(Clone, Copy)]
-pub enum AvailableNotices {
-    Stop(u8),
-    Idle,
-    Offered(bool),
+pub struct Taken {
+    pub head: u16,
+    pub notify: bool,
 }
 
-// The head of the next chain, or a stop.
-#[derive(Clone, Copy)]
-pub enum HeadEntry {
-    Stop(u8),
-    At(u64),
-}
-
-// A stop, nothing to do, or a head and whether to notify; the request's bytes and the places for the
-// response are then in the lent buffers.
-#[derive(Clone, Copy)]
-pub enum TakenOffer {
-    Stop(u8),
-    Idle,
-    Ready(u64, bool),
-}
-
-// Available flags and idx; idle; the distance.
-fn notices(
-    view: &[u64],
-    block: u64,
-    plugged: &[u64],
-    queue: SplitQueue,
-    mem: &[u8],
-    hint: usize,
-) -> AvailableNotices
-    requires lent { Lent view.now mem.now block plugged.now }
-    requires queue_value { queue_ok queue ≡ true }
-    ensures { result ≡ notices_of (guest_in view.now block plugged.now) mem.now queue }
+// Available flags and idx, and the distance: whether to notify, or none where nothing is offered.
+fn notices(guest: &Guest, queue: SplitQueue) -> Result<Option<bool>, QueueStop>
+    requires { queue_ok queue ≡ true }
+    ensures { result ≡ notices_of (guest_of guest.now) guest.now.mem.now queue }
 {
     let ring = queue.available;
-    if !reaches(view, block, plugged, hint, ring, 4) {
-        return AvailableNotices::Stop(refusal::RING);
+    if !guest.reaches(ring, 4) {
+        return Err(QueueStop::Ring);
     }
-    let flags = read_number(view, mem, hint, ring, 2);
-    let idx = read_number(view, mem, hint, GuestAddress(ring.0 + 2), 2) as u16;
+    let flags = guest.number(ring);
+    let idx = guest.number(GuestAddress(ring.0 + 2));
     if idx == queue.next_available {
-        return AvailableNotices::Idle;
+        return Ok(None);
     }
-    let distance = std::num::wrapping_sub_u16(idx, queue.next_available);
+    let distance = idx.wrapping_sub(queue.next_available);
     if queue.size < distance {
-        return AvailableNotices::Stop(refusal::AHEAD);
+        return Err(QueueStop::Ahead);
     }
-    AvailableNotices::Offered(flags % 2 == 0)
+    Ok(Some(flags % 2 == 0))
 }
 
 // The ring entry at seen mod n.
-fn head(
-    view: &[u64],
-    block: u64,
-    plugged: &[u64],
-    queue: SplitQueue,
-    mem: &[u8],
-    hint: usize,
-) -> HeadEntry
-    requires lent { Lent view.now mem.now block plugged.now }
-    requires queue_value { queue_ok queue ≡ true }
-    ensures { result ≡ head_of (guest_in view.now block plugged.now) mem.now queue }
+fn head(guest: &Guest, queue: SplitQueue) -> Result<u16, QueueStop>
+    requires { queue_ok queue ≡ true }
+    ensures { result ≡ head_of (guest_of guest.now) guest.now.mem.now queue }
 {
     let entry = ring_entry(queue.available, queue.next_available, queue.size);
-    if !reaches(view, block, plugged, hint, entry, 2) {
-        return HeadEntry::Stop(refusal::RING);
+    if !guest.reaches(entry, 2) {
+        return Err(QueueStop::Ring);
     }
-    let number = read_number(view, mem, hint, entry, 2);
-    if number < queue.size as u64 {
-        return HeadEntry::At(number);
+    let number = guest.number(entry);
+    if number < queue.size {
+        return Ok(number);
     }
-    HeadEntry::Stop(refusal::HEAD)
+    Err(QueueStop::Head)
 }
 
 // Are the used element and the used idx reachable?
-fn used_reached(view: &[u64], block: u64, plugged: &[u64], queue: SplitQueue, hint: usize) -> bool
-    requires judged { Judged view.now }
-    requires block_nonzero { (0 < block) × (length plugged.now ≡ table_length) }
-    requires queue_value { queue_ok queue ≡ true }
-    ensures { result ≡ used_reached (guest_in view.now block plugged.now) queue }
+fn used_reached(guest: &Guest, queue: SplitQueue) -> bool
+    requires { queue_ok queue ≡ true }
+    ensures { result ≡ used_reached (guest_of guest.now) queue }
 {
     let entry = used_entry(queue.used, queue.next_used, queue.size);
     let idx = used_idx(queue.used);
-    reaches(view, block, plugged, hint, entry, 8) & reaches(view, block, plugged, hint, idx, 2)
-}
-
-// The number that ended a chain, or 22 for one that is too short, or 0.
-fn shape(gathered: Gathered) -> u8
-    ensures { result ≡ shape_from gathered }
-{
-    if gathered.stop != 0 {
-        return gathered.stop;
-    }
-    if (gathered.readable < REQUEST_BYTES) | (gathered.writable < RESPONSE_BYTES) {
-        return refusal::SHAPE;
-    }
-    0
+    guest.reaches(entry, 8) & guest.reaches(idx, 2)
 }
 
 // The chain from a head on, its shape, and the used ring.
 fn take_chain(
-    view: &[u64],
-    block: u64,
-    plugged: &[u64],
-    mem: &[u8],
-    hint: usize,
+    guest: &Guest,
     queue: SplitQueue,
-    head: u64,
-    notify: bool,
-    request: &mut [u8],
-    places: &mut [usize],
-) -> TakenOffer
-    requires taking { Taking view.now mem.now block plugged.now queue request.old places.old }
+    head: u16,
+    chain: &mut Gathered,
+) -> Result<(), QueueStop>
+    requires queue_value { queue_ok queue ≡ true }
     requires head_lt_size { head < queue.size }
-    ensures { TakesChain view.now mem.now block plugged.now queue head notify result
-        request.new places.new }
+    requires begun { chain.old ≡ nothing_yet }
+    ensures { TakesIn guest.now queue head result chain.new }
 {
-    let table = queue.descriptors;
-    let size = queue.size as u64;
-    let gathered = gather(
-        view, block, plugged, mem, hint, table, size, head, request, places,
-    );
-    let stop = shape(gathered);
-    if stop != 0 {
-        return TakenOffer::Stop(stop);
+    chain.gather(guest, queue.descriptors, queue.size, head)?;
+    if chain.is_short() {
+        return Err(QueueStop::Shape);
     }
-    if !used_reached(view, block, plugged, queue, hint) {
-        return TakenOffer::Stop(refusal::RING);
+    if !used_reached(guest, queue) {
+        return Err(QueueStop::Ring);
     }
-    TakenOffer::Ready(head, notify)
+    Ok(())
 }
 
-// All that a step reads. The hint is a range in which the queue is likely to lie; any number will do.
+// All that a step reads; none where nothing is offered.
 pub fn take(
-    view: &[u64],
-    block: u64,
-    plugged: &[u64],
+    guest: &Guest,
     queue: SplitQueue,
-    mem: &[u8],
-    hint: usize,
-    request: &mut [u8],
-    places: &mut [usize],
-) -> TakenOffer
-    requires { Taking view.now mem.now block plugged.now queue request.old places.old }
-    ensures { TakesAll view.now mem.now block plugged.now queue result
-        request.new places.new }
+    chain: &mut Gathered,
+) -> Result<Option<Taken>, QueueStop>
+    requires queue_value { queue_ok queue ≡ true }
+    requires begun { chain.old ≡ nothing_yet }
+    ensures { TakesAll guest.now queue result chain.new }
 {
-    let stop = queue.stop;
-    if stop != 0 {
-        return TakenOffer::Stop(stop);
+    if let Some(stop) = queue.stopped() {
+        return Err(stop);
     }
-    match notices(view, block, plugged, queue, mem, hint) {
-        AvailableNotices::Stop(k) => TakenOffer::Stop(k),
-        AvailableNotices::Idle => TakenOffer::Idle,
-        AvailableNotices::Offered(notify) => {
-            match head(view, block, plugged, queue, mem, hint) {
-                HeadEntry::Stop(k) => TakenOffer::Stop(k),
-                HeadEntry::At(h) => take_chain(
-                    view, block, plugged, mem, hint, queue, h, notify, request, places,
-                ),
-            }
-        }
-    }
+    let Some(notify) = notices(guest, queue)? else {
+        return Ok(None);
+    };
+    let head = head(guest, queue)?;
+    take_chain(guest, queue, head, chain)?;
+    Ok(Some(Taken { head, notify }))
 }

@@ -5,13 +5,13 @@ ghost use Rattle.virtqueue.specs.Step.{stepped};
 ghost use Rattle.virtqueue.specs.Does.{Advances};
 
 use crate::queue::SplitQueue;
-use crate::step::{StepOutcome, step};
+use crate::step::{Served, StepFault, step};
 use memory_device::device::MemoryDevice;
 
 // The outcome, and the device's next state.
 #[derive(Clone, Copy)]
 pub struct Advanced {
-    pub outcome: StepOutcome,
+    pub outcome: Result<Option<Served>, StepFault>,
     pub device: MemoryDevice,
 }
 

@@ -1,3 +1,4 @@
 pub mod CallLaws
-pub mod DeviceCalls
 pub mod QueueCalls
+pub mod QueueWords
+pub mod RouteCalls

@@ -1,93 +1,88 @@
 -- What the calls over queues say, from what the calls inside them give. Assumes nothing.
 use mathlib.Core.Path.{◌≡◌, refl, sym, ap, ◌∙◌}
-use mathlib.Core.Bool.{Bool, true, false, ◌&&◌}
-use mathlib.Core.List.{List}
+use mathlib.Core.Bool.{Bool, true, false, cond, ◌&&◌}
+use mathlib.Core.List.{List, []}
 use Prim.Native.Nat.{ℕ, ◌<◌}
 use native.Mathlib.Omega.{arith}
-use lib.Dec.{eqb, leb}
-use lib.ListN.{length, get_or}
-use borrow.Author.Tests.{eqb-true, leb-true, eq-eqb, ne_eqb}
+use lib.ListN.{length}
+use borrow.Author.Tests.{eq-eqb}
+use Rattle.std.proofs.Common.{Result, Ok, Err, Option, Some, None}
+use Rattle.std.specs.Option.{ok_or}
+use Rattle.std.specs.Result.{IsErr}
 use Rattle.map_records.specs.Words.{view_of}
-use Rattle.map_check.specs.Reply.{number_of, passes}
 use Rattle.map_records.specs.Limits.{is_view}
-use Rattle.map_check.proofs.Bools.{and_fst, and_snd}
+use Rattle.map_check.specs.Reply.{number_of, reply_by}
+use Rattle.map_check.specs.declared.answer.RecordFault.{RecordFault}
 use Rattle.device_words.specs.Device.{MemoryDevice}
 use Rattle.device_words.specs.Words.{is_device, device_of, device_words}
-use Rattle.virtqueue.specs.Queue.{size_ok, areas_ok, made, queue_reply, given_by}
+use Rattle.memory_device.specs.Record.{record_reply}
+use Rattle.virtqueue.specs.Queue.{size_ok, areas_ok, made, was_reset, record_fault_reply, given_by}
 use Rattle.virtqueue.specs.Step.{Answer, stepped}
-use Rattle.virtqueue.specs.Does.{answer_of, laid, DoesIn}
+use Rattle.virtqueue.specs.Does.{answer_of, step_fault_reply, laid, DoesIn}
 use Rattle.virtqueue.specs.Run.{run_end_of, ran, RunDoes}
 use Rattle.virtqueue.specs.declared.queue.SplitQueue.{SplitQueue}
-use Rattle.virtqueue.specs.declared.queue.QueueAnswer.{QueueAnswer}
-use Rattle.virtqueue.specs.declared.queue.QueueAnswer.TheVariants as answer
-use Rattle.virtqueue.specs.declared.queue.QueueGiven.{QueueGiven}
 use Rattle.virtqueue.specs.declared.step.Moved.{Moved}
+use Rattle.virtqueue.specs.declared.step.Served.{Served}
+use Rattle.virtqueue.specs.declared.step.StepFault.{StepFault}
 use Rattle.virtqueue.specs.declared.run.Ran.{Ran}
+use Rattle.virtqueue.specs.declared.run.RunEnd.{RunEnd}
+use Rattle.virtqueue.specs.declared.run.RunEnd.TheVariants.{AllDone, Idle}
 use Rattle.virtqueue.proofs.QueueLaws.{size_bounds}
-use Rattle.wicktumble.specs.Result.{Report, Returns, result_length, is_result}
-use Rattle.wicktumble.specs.Devices.{WordsReport, ReturnsWords}
-use Rattle.wicktumble.specs.Queues.{queue_fits, QueueWidths, queue_of, queue_words, gives, StepReport, ReturnsStep, records_fit}
-use Rattle.wicktumble.specs.Queues.{step_result, step_left, step_call, run_result, run_left, run_call}
-use Rattle.wicktumble.proofs.CallLaws.{taken, refused, result_fits, told_as}
+use Rattle.wicktumble.specs.Result.{Returns, padded, result_length, is_result}
+use Rattle.wicktumble.specs.Devices.{ReturnsWords}
+use Rattle.wicktumble.specs.Queues.{queue_length, queue_fits, queue_of, queue_words, gives, reset_queue_call, StepReport, ReturnsStep, records_fit}
+use Rattle.wicktumble.specs.Queues.{step_result, step_call, run_result, run_call}
+use Rattle.wicktumble.specs.Promises.{told_by, served_words, run_words, queue_read, queue_lent}
+use Rattle.wicktumble.proofs.CallLaws.{told_as}
+use Rattle.wicktumble.proofs.QueueWords.{queue_widths}
 
--- ---- the test of the lengths and widths
-pub queue_widths : (w : List ℕ) {b : Bool} → b ≡ queue_fits w → b ≡ true → QueueWidths w
-unfolding queue_fits
-queue_widths w q t =
-    let n = eqb (length w) 7 in
-    let a = leb (get_or w 0 0) 65535 in
-    let b = leb (get_or w 4 0) 65535 in
-    let c = leb (get_or w 5 0) 65535 in
-    let d = leb (get_or w 6 0) 255 in
-    let h : (n && (a && (b && (c && d)))) ≡ true = sym q ∙ t in
-    let abcd = and_snd n (a && (b && (c && d))) h in
-    let bcd = and_snd a (b && (c && d)) abcd in
-    let cd = and_snd b (c && d) bcd in
-    record {
-      seven = eqb-true (length w) 7 (and_fst n (a && (b && (c && d))) h);
-      size = leb-true (get_or w 0 0) 65535 (and_fst a (b && (c && d)) abcd);
-      available = leb-true (get_or w 4 0) 65535 (and_fst b (c && d) bcd);
-      used = leb-true (get_or w 5 0) 65535 (and_fst c d cd);
-      stop = leb-true (get_or w 6 0) 255 (and_snd c d cd);
-    }
+-- ---- the queue that is read
+pub record Read (w : List ℕ) (q : SplitQueue) : Type 0 where
+  pub fits : queue_fits w ≡ true
+  pub long : length w ≡ queue_length
+  pub queue : q ≡ queue_of w
 
-pub record Fits (d q x : List ℕ) : Type 0 where
+module _ (w : List ℕ) where
+  read_by : (t : Bool) → queue_fits w ≡ t → {q : SplitQueue} → cond t (Some (queue_of w)) None ≡ Some q → Read w q
+  read_by true e s = record { fits = e; long = (queue_widths w e).seven; queue = cc }
+  read_by false e s = cc
+
+  pub read_some : {o : Option SplitQueue} {q : SplitQueue} → o ≡ queue_read w → o ≡ Some q → Read w q
+  unfolding queue_read
+  read_some e s = read_by (queue_fits w) refl (cc)
+
+  unread : (t : Bool) → cond t (Some (queue_of w)) None ≡ None → t ≡ false
+  unread true s = cc
+  unread false s = refl
+
+  pub read_none : {o : Option SplitQueue} → o ≡ queue_read w → o ≡ None → queue_fits w ≡ false
+  unfolding queue_read
+  read_none e s = unread (queue_fits w) (cc)
+
+-- ---- the queue of a step or a run
+pub record Lent (v d w : List ℕ) (q : SplitQueue) : Type 0 where
+  pub view : is_view v ≡ true
   pub device : is_device d ≡ true
-  pub queue : QueueWidths q
-  pub result : length x ≡ result_length
+  pub read : Read w q
 
-pub fits : (v d q x : List ℕ) {b : Bool} → b ≡ records_fit v d q x → b ≡ true → Fits d q x
-fits v d q x e t =
-    let f = and_snd (is_view v) (is_device d && (queue_fits q && is_result x)) (sym e ∙ t) in
-    let g = and_snd (is_device d) (queue_fits q && is_result x) f in
-    record {
-      device = and_fst (is_device d) (queue_fits q && is_result x) f;
-      queue = queue_widths q refl (and_fst (queue_fits q) (is_result x) g);
-      result = result_fits (queue_fits q) x g;
-    }
+module _ (v d w : List ℕ) where
+  lent_by : (s t : Bool) → is_view v ≡ s → is_device d ≡ t → {q : SplitQueue} → cond (s && t) (queue_read w) None ≡ Some q → Lent v d w q
+  lent_by true true e f h = record { view = e; device = f; read = read_some w refl h }
+  lent_by true false e f h = cc
+  lent_by false t e f h = cc
 
--- ---- making and reset
-pub changed_as : {c c' : WordsReport} {n : ℕ} {w : List ℕ} → ReturnsWords c n w → c ≡ c' → ReturnsWords c' n w
-changed_as (n, w) e = (n ∙ ap (λ (y : WordsReport). y.number) e, w ∙ ap (λ (y : WordsReport). y.words) e)
+  pub lent_some : {o : Option SplitQueue} {q : SplitQueue} → o ≡ queue_lent v d w → o ≡ Some q → Lent v d w q
+  lent_some e s = lent_by (is_view v) (is_device d) refl refl (cc)
 
--- a number is 0 where nothing is refused, and only there
-queue_zero : (a : QueueAnswer) → eqb (number_of (queue_reply a)) 0 ≡ passes (queue_reply a)
-queue_zero answer.Done = refl
-queue_zero answer.Queue = refl
-queue_zero answer.Record = refl
+  unlent : (s t : Bool) (x : List ℕ) → cond (s && t) (queue_read w) None ≡ None → (s && (t && (queue_fits w && is_result x))) ≡ false
+  unlent true true x h = rw (read_none w refl h)
+  unlent true false x h = refl
+  unlent false t x h = refl
 
-module _ (g : QueueGiven) (w : List ℕ) {n : ℕ} (e : n ≡ number_of (queue_reply g.answer)) where
-  pub given_put : {w' : List ℕ} → n ≡ 0 → w' ≡ queue_words g.queue → ReturnsWords (gives (given_by g) w) n w'
-  given_put z q =
-      let p : passes (queue_reply g.answer) ≡ true = sym (queue_zero g.answer) ∙ eq-eqb _ 0 (sym e ∙ z) in
-      (e, rw p q)
+  pub lent_none : {o : Option SplitQueue} (x : List ℕ) → o ≡ queue_lent v d w → o ≡ None → records_fit v d w x ≡ false
+  lent_none x e s = unlent (is_view v) (is_device d) x (cc)
 
-  pub given_kept : (n ≡ 0 → ⊥) → ReturnsWords (gives (given_by g) w) n w
-  given_kept z =
-      let p : passes (queue_reply g.answer) ≡ false = sym (queue_zero g.answer) ∙ ne_eqb _ 0 (λ h. z (e ∙ h)) in
-      (e, rw p)
-
--- a size past 16 bits is no power of two from 1 to 256
+-- ---- a size past 16 bits is no power of two from 1 to 256
 module _ (size a b u : ℕ) (l : 65535 < size) where
   size_large : size_ok size ≡ false
   size_large = go (size_ok size) refl
@@ -104,8 +99,53 @@ module _ (size a b u : ℕ) (l : 65535 < size) where
   unfolding made
   made_large w = (rw areas_large, rw areas_large)
 
+-- ---- a reset
+ok_or_none : {A E : Type 0} (o : Option A) (e : E) {d : E} → ok_or o e ≡ Err d → o ≡ None
+ok_or_none (Some x) e s = cc
+ok_or_none None e s = refl
+
+ok_or_some : {A E : Type 0} (o : Option A) (e : E) {x : A} → ok_or o e ≡ Ok x → o ≡ Some x
+ok_or_some (Some y) e s = cc
+ok_or_some None e s = cc
+
+pub record_number : {A : Type 0} (r : Result A RecordFault) → IsErr r → number_of (record_reply r) ≡ 27
+record_number (Ok a) h = cc
+record_number (Err e) h = refl
+
+module _ (w : List ℕ) where
+  pub unread_by : {o : Option SplitQueue} {e d : RecordFault} {r : Result SplitQueue RecordFault} → o ≡ queue_read w → r ≡ ok_or o e → r ≡ Err d → queue_fits w ≡ false
+  unread_by {o = o} {e = e} q f s = read_none w q (ok_or_none o e (sym f ∙ s))
+
+  pub read_as_given : {o : Option SplitQueue} {e : RecordFault} {x : SplitQueue} {r : Result SplitQueue RecordFault} → o ≡ queue_read w → r ≡ ok_or o e → r ≡ Ok x → Read w x
+  read_as_given {o = o} {e = e} q f s = read_some w q (ok_or_some o e (sym f ∙ s))
+
+  pub reset_unfit : {n : ℕ} → queue_fits w ≡ false → n ≡ 27 → ReturnsWords (reset_queue_call w) n w
+  unfolding reset_queue_call
+  reset_unfit f e = rw f (e, refl)
+
+  pub reset_refused : {n : ℕ} {q : SplitQueue} {r : Result SplitQueue RecordFault} {d : RecordFault} → Read w q → given_by record_fault_reply q r ≡ was_reset q → r ≡ Err d
+      → n ≡ 27 → ReturnsWords (reset_queue_call w) n w
+  unfolding reset_queue_call
+  reset_refused l g s e = rw (l.fits, ← l.queue, ← g, s) (e, refl)
+
+  pub reset_done : {q p : SplitQueue} {r : Result SplitQueue RecordFault} {w' : List ℕ} → Read w q → given_by record_fault_reply q r ≡ was_reset q → r ≡ Ok p
+      → w' ≡ queue_words p → ReturnsWords (reset_queue_call w) 0 w'
+  unfolding reset_queue_call
+  reset_done l g s e = rw (l.fits, ← l.queue, ← g, s) (refl, e)
+
+-- ---- what the outcome of a step tells, and the end of a run
+step_told : (a : Result (Option Served) StepFault) → told_by served_words (λ _. []) step_fault_reply a ≡ step_result (answer_of a)
+step_told (Ok None) = refl
+step_told (Ok (Some s)) = refl
+step_told (Err f) = refl
+
+run_number : (served : ℕ) (notified : Bool) (a : Result RunEnd StepFault) → number_of (reply_by step_fault_reply a) ≡ (run_result served notified (run_end_of a)).number
+run_number n b (Ok AllDone) = refl
+run_number n b (Ok Idle) = refl
+run_number n b (Err f) = refl
+
 -- ---- a step or a run: the device's words lie as it left them, the queue's are put
-left_as : {c c' : StepReport} {n : ℕ} {d q m x : List ℕ} → ReturnsStep c n d q m x → c ≡ c' → ReturnsStep c' n d q m x
+pub left_as : {c c' : StepReport} {n : ℕ} {d q m x : List ℕ} → ReturnsStep c n d q m x → c ≡ c' → ReturnsStep c' n d q m x
 left_as (d, q, m, t) e = (
   d ∙ ap (λ (y : StepReport). y.device) e,
   q ∙ ap (λ (y : StepReport). y.queue) e,
@@ -116,38 +156,34 @@ left_as (d, q, m, t) e = (
 laid_in : (d : List ℕ) (y : MemoryDevice) → is_device d ≡ true → laid d y ≡ device_words y
 laid_in d y f = rw f
 
-module _ (v d q m x : List ℕ) {b : Bool} (e : b ≡ records_fit v d q x) where
-  pub step_left_lem : {y : SplitQueue} (r : Moved) {c : Report} {n : ℕ} {d' q' m' x' : List ℕ} → b ≡ true → y ≡ queue_of q
-      → DoesIn d (stepped (view_of v) (device_of d) y m) r d' m'
-      → q' ≡ queue_words r.queue → c ≡ step_result (answer_of r.outcome) → Returns c n x' → ReturnsStep (step_call v d q m x) n d' q' m' x'
+module _ (v d w m x : List ℕ) {y : SplitQueue} (l : Lent v d w y) (f : length x ≡ result_length) where
+  fit : records_fit v d w x ≡ true
+  fit = rw (l.view, l.device, l.read.fits, eq-eqb (length x) result_length f)
+
+  pub step_done : (r : Moved) {n : ℕ} {d' w' m' x' : List ℕ} → DoesIn d (stepped (view_of v) (device_of d) y m) r d' m'
+      → w' ≡ queue_words r.queue → Returns (told_by served_words (λ _. []) step_fault_reply r.outcome) n x' → ReturnsStep (step_call v d w m x) n d' w' m' x'
   unfolding step_call
-  step_left_lem {y = y} r t ey (ea, er, ed, em) eq ec told =
-      left_as {c = step_left (stepped (view_of v) (device_of d) y m)} (
-        ed ∙ laid_in d _ (fits v d q x e t).device,
-        eq ∙ ap queue_words er,
-        em,
-        told_as told (ec ∙ ap (λ (z : Answer). step_result z) ea),
-      )
-      (ap (λ (z : SplitQueue). step_left (stepped (view_of v) (device_of d) z m)) ey ∙ taken _ _ (sym e ∙ t))
+  step_done r (ea, er, ed, em) ew told =
+      rw (fit, ← l.read.queue)
+      (ed ∙ laid_in d _ l.device, ew ∙ ap queue_words er, em, told_as told (step_told r.outcome ∙ ap (λ (z : Answer). step_result z) ea))
 
-  pub step_refused : b ≡ false → ReturnsStep (step_call v d q m x) 27 d q m x
+  pub run_done : (k : ℕ) (r : Ran) {n : ℕ} {d' w' m' x' : List ℕ} → RunDoes d (ran (view_of v) (device_of d) y m k) r d' m'
+      → w' ≡ queue_words r.queue → n ≡ number_of (reply_by step_fault_reply r.end) → x' ≡ padded (run_words r) → ReturnsStep (run_call v d w m k x) n d' w' m' x'
+  unfolding run_call
+  run_done k r (es, en, ee, er, ed, em) ew en' ex =
+      rw (fit, ← l.read.queue) (
+        ed ∙ laid_in d _ l.device,
+        ew ∙ ap queue_words er,
+        em,
+        told_as (en' ∙ run_number r.served r.notified r.end, ex) (λ i. run_result (es i) (en i) (ee i)),
+      )
+
+-- ---- and where the records do not fit, all stays
+module _ (v d w m x : List ℕ) (f : records_fit v d w x ≡ false) {n : ℕ} (e : n ≡ 27) where
+  pub step_refused : ReturnsStep (step_call v d w m x) n d w m x
   unfolding step_call
-  step_refused t = left_as (refl, refl, refl, (refl, refl)) (refused _ _ (sym e ∙ t))
+  step_refused = rw f (refl, refl, refl, (e, refl))
 
-  pub run_left_lem : (k : ℕ) {y : SplitQueue} (r : Ran) {c : Report} {n : ℕ} {d' q' m' x' : List ℕ} → b ≡ true → y ≡ queue_of q
-      → RunDoes d (ran (view_of v) (device_of d) y m k) r d' m'
-      → q' ≡ queue_words r.queue → c ≡ run_result r.served r.notified (run_end_of r.end) → Returns c n x'
-      → ReturnsStep (run_call v d q m k x) n d' q' m' x'
+  pub run_refused : (k : ℕ) → ReturnsStep (run_call v d w m k x) n d w m x
   unfolding run_call
-  run_left_lem k {y = y} r t ey (es, en, ee, er, ed, em) eq ec told =
-      left_as {c = run_left (ran (view_of v) (device_of d) y m k)} (
-        ed ∙ laid_in d _ (fits v d q x e t).device,
-        eq ∙ ap queue_words er,
-        em,
-        told_as told (ec ∙ (λ i. run_result (es i) (en i) (ee i))),
-      )
-      (ap (λ (z : SplitQueue). run_left (ran (view_of v) (device_of d) z m k)) ey ∙ taken _ _ (sym e ∙ t))
-
-  pub run_refused : (k : ℕ) → b ≡ false → ReturnsStep (run_call v d q m k x) 27 d q m x
-  unfolding run_call
-  run_refused k t = left_as (refl, refl, refl, (refl, refl)) (refused _ _ (sym e ∙ t))
+  run_refused k = rw f (refl, refl, refl, (e, refl))

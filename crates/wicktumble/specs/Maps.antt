@@ -1,12 +1,12 @@
 -- The calls over maps: sheet, check, walk, flat view. Each gives its number, and what it leaves in the lent words. Assumes nothing: these are definitions.
-use Rattle.std.specs.Prelude.{◌≡◌, cond, ◌&&◌, List, [], ◌∷◌, ℕ}
+use Rattle.std.specs.Prelude.{◌≡◌, cond, ◌&&◌, List, [], ◌∷◌, ℕ, Option, Some, None}
 use Rattle.map_records.specs.Words.{map_of}
 use Rattle.map_check.specs.Reply.{Reply}
 use Rattle.map_check.specs.Check.{judged}
 use Rattle.region_map.specs.Resolve.{WalkAnswer, refused, leads, resolved}
 use Rattle.region_map.specs.Flatten.{flattened_into}
 use Rattle.map_records.specs.Limits.{is_view, is_map}
-use Rattle.region_map.specs.declared.resolve.Resolved.TheVariants.{Nothing, At}
+use Rattle.map_records.specs.declared.map.Found.{Found}
 use Rattle.sheet.specs.Sheet.{read_into}
 use Rattle.wicktumble.specs.Result.{Report, Returns, report_of, reply_report, length_refused, is_result}
 
@@ -33,11 +33,15 @@ read_call bytes memory map result =
 unfoldable pub check_call : List ℕ → ℕ → List ℕ → Report
 check_call map memory result = cond (is_map map && is_result result) (reply_report (judged (map_of map) memory)) (length_refused result)
 
--- a refusal, or 1, the region and the offset, or zeros for nothing
+-- 1, the region and the offset, or zeros for nothing
+abbrev pub found_words : Option Found → List ℕ
+found_words None = []
+found_words (Some f) = 1 ∷ f.region ∷ f.offset.0 ∷ []
+
+-- a refusal, or what the address leads to
 abbrev pub walk_result : WalkAnswer → Report
 walk_result (refused r) = reply_report r
-walk_result (leads Nothing) = report_of 0 []
-walk_result (leads (At n o)) = report_of 0 (1 ∷ n ∷ o.0 ∷ [])
+walk_result (leads x) = report_of 0 (found_words x)
 
 unfoldable pub walk_call : List ℕ → ℕ → ℕ → List ℕ → Report
 walk_call map memory a result = cond (is_map map && is_result result) (walk_result (resolved (map_of map) memory a)) (length_refused result)

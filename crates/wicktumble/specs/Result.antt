@@ -34,8 +34,11 @@ second_of (nodes k i j) = j
 second_of (place k p) = 0
 second_of (plain k) = 0
 
+abbrev pub places : Reply → List ℕ
+places r = first_of r ∷ second_of r ∷ []
+
 abbrev pub reply_report : Reply → Report
-reply_report r = report_of (number_of r) (first_of r ∷ second_of r ∷ [])
+reply_report r = report_of (number_of r) (places r)
 
 -- 27 for a wrong length: nothing is written
 abbrev pub length_refused : List ℕ → Report

@@ -22,8 +22,11 @@ abbrev pub route_by : List ℕ → ℕ → List ℕ → ℕ → ℕ → Routed
 route_by view memory device a w =
     cond (is_none device) (routed_without (view_of view) memory a w) (routed_with (view_of view) memory (device_of device) a w)
 
+abbrev pub device_fits : List ℕ → Bool
+device_fits device = is_none device || is_device device
+
 abbrev pub route_fits : List ℕ → List ℕ → List ℕ → Bool
-route_fits view device result = is_view view && ((is_none device || is_device device) && is_result result)
+route_fits view device result = is_view view && (device_fits device && is_result result)
 
 unfoldable pub route_call : List ℕ → ℕ → List ℕ → ℕ → ℕ → List ℕ → Report
 route_call view memory device a w result = cond (route_fits view device result) (route_result (route_by view memory device a w)) (length_refused result)

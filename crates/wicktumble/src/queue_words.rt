@@ -1,66 +1,47 @@
-// A queue's words, both ways.
-ghost use Rattle.std.specs.Prelude.{◌≡◌, length};
-ghost use Rattle.wicktumble.specs.Queues.{queue_fits, QueueWidths, queue_of, queue_words, queue_length};
+// A queue's words, both ways. Neither the words nor the record are types of this crate, so both are functions and no `From`.
+ghost use Rattle.std.specs.Prelude.{◌≡◌};
+ghost use Rattle.wicktumble.specs.Queues.{queue_words};
+ghost use Rattle.wicktumble.specs.Promises.{queue_read};
 
 use map_records::map::GuestAddress;
 use virtqueue::queue::SplitQueue;
 
-// Where each field lies.
-const SIZE: usize = 0;
-
-const DESCRIPTORS: usize = 1;
-
-const AVAILABLE: usize = 2;
-
-const USED: usize = 3;
-
-const NEXT_AVAILABLE: usize = 4;
-
-const NEXT_USED: usize = 5;
-
-const STOP: usize = 6;
-
 pub const QUEUE_WORDS: usize = 7;
 
-// The largest value of a 16-bit field.
-pub const WIDEST: u64 = 65535;
-
-// Are they as many, and none wider than its field?
-pub fn queue_fits(words: &[u64]) -> bool
-    ensures { result ≡ queue_fits words.now }
+// The queue, where the words are as many and none is wider than its field.
+pub fn queue_of(words: &[u64]) -> Option<SplitQueue>
+    ensures { result ≡ queue_read words.now }
 {
-    if words.len() != QUEUE_WORDS {
-        return false;
-    }
-    (words[SIZE] <= WIDEST)
-        & ((words[NEXT_AVAILABLE] <= WIDEST)
-            & ((words[NEXT_USED] <= WIDEST) & (words[STOP] <= 255)))
+    let [
+        size,
+        descriptors,
+        available,
+        used,
+        next_available,
+        next_used,
+        stop,
+    ] = *words.as_array::<QUEUE_WORDS>()?;
+    Some(SplitQueue {
+        size: u16::try_from(size).ok()?,
+        descriptors: GuestAddress(descriptors),
+        available: GuestAddress(available),
+        used: GuestAddress(used),
+        next_available: u16::try_from(next_available).ok()?,
+        next_used: u16::try_from(next_used).ok()?,
+        stop: u8::try_from(stop).ok()?,
+    })
 }
 
-pub fn queue_of(words: &[u64]) -> SplitQueue
-    requires { QueueWidths words.now }
-    ensures { result ≡ queue_of words.now }
+pub fn queue_words(queue: SplitQueue) -> [u64; QUEUE_WORDS]
+    ensures { result ≡ queue_words queue }
 {
-    SplitQueue {
-        size: words[SIZE] as u16,
-        descriptors: GuestAddress(words[DESCRIPTORS]),
-        available: GuestAddress(words[AVAILABLE]),
-        used: GuestAddress(words[USED]),
-        next_available: words[NEXT_AVAILABLE] as u16,
-        next_used: words[NEXT_USED] as u16,
-        stop: words[STOP] as u8,
-    }
-}
-
-pub fn put_queue(words: &mut [u64], queue: SplitQueue)
-    requires { length words.old ≡ queue_length }
-    ensures { words.new ≡ queue_words queue }
-{
-    words[SIZE] = queue.size as u64;
-    words[DESCRIPTORS] = queue.descriptors.0;
-    words[AVAILABLE] = queue.available.0;
-    words[USED] = queue.used.0;
-    words[NEXT_AVAILABLE] = queue.next_available as u64;
-    words[NEXT_USED] = queue.next_used as u64;
-    words[STOP] = queue.stop as u64;
+    [
+        u64::from(queue.size),
+        queue.descriptors.0,
+        queue.available.0,
+        queue.used.0,
+        u64::from(queue.next_available),
+        u64::from(queue.next_used),
+        u64::from(queue.stop),
+    ]
 }

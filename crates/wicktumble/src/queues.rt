@@ -1,37 +1,47 @@
 // The split queue: making and reset, one step, a run of steps.
-ghost use Rattle.std.specs.Prelude.{◌≡◌, length};
-ghost use Rattle.wicktumble.specs.Promises.{said_report};
+ghost use Rattle.std.specs.Prelude.{◌≡◌, [], List, ℕ};
+ghost use Rattle.virtqueue.specs.Queue.{made, queue_fault_reply};
+ghost use Rattle.map_check.specs.Reply.{number_of, reply_by};
+ghost use Rattle.memory_device.specs.Record.{record_reply};
 ghost use Rattle.wicktumble.specs.Devices.{ReturnsWords};
-ghost use Rattle.wicktumble.specs.Queues.{gives, make_call, reset_queue_call, records_fit, flag};
-ghost use Rattle.wicktumble.specs.Queues.{ReturnsStep, step_result, step_call, run_result, run_call, queue_length};
-ghost use Rattle.virtqueue.specs.Queue.{given_by};
-ghost use Rattle.virtqueue.specs.Does.{answer_of};
-ghost use Rattle.virtqueue.specs.Run.{run_end_of};
+ghost use Rattle.wicktumble.specs.Queues.{gives, make_call, reset_queue_call, ReturnsStep, step_call, run_call};
+ghost use Rattle.wicktumble.specs.Promises.{served_words, run_words, queue_lent};
 
-use crate::queue_words::{QUEUE_WORDS, WIDEST, put_queue, queue_fits, queue_of};
-use crate::result::{RESULT_WORDS, Said, say, say_three, say_two, tell};
+use crate::queue_words::{QUEUE_WORDS, queue_of, queue_words};
+use crate::result::{RESULT_WORDS, Told, refused, tell};
 use device_words::words::DEVICE_WORDS;
+use map_check::answer::{RecordFault, number_of};
 use map_records::map::GuestAddress;
-use map_records::refusal;
+use map_records::refusal::Refusal;
 use map_records::words::VIEW_WORDS;
 use virtqueue::in_place::step_in_place;
-use virtqueue::queue;
-use virtqueue::queue::{QueueGiven, make_queue};
-use virtqueue::run::{RunEnd, run_steps};
-use virtqueue::step::StepOutcome;
+use virtqueue::queue::{QueueFault, SplitQueue, make_queue};
+use virtqueue::run::{Ran, RunEnd, run_steps};
+use virtqueue::step::{Served, StepFault};
 
-// A queue that was made or reset into its words, or nothing on a refusal; gives the number.
-fn put_given(queue: &mut [u64], given: QueueGiven) -> u64
-    requires { length queue.old ≡ queue_length }
-    ensures { ReturnsWords (gives (given_by given) queue.old) result queue.new }
+// A queue that is made into its words, which stay as they are on a refusal.
+fn put_made(
+    size: u64,
+    descriptors: u64,
+    available: u64,
+    used: u64,
+    words: &mut [u64; QUEUE_WORDS],
+) -> Result<(), QueueFault>
+    ensures { ReturnsWords (gives (made size descriptors available used) words.old)
+        (number_of (reply_by queue_fault_reply result)) words.new }
 {
-    let answer = given.answer;
-    let number = queue::number_of(answer);
-    if number == 0 {
-        let fresh = given.queue;
-        put_queue(queue, fresh);
-    }
-    number
+    // Past 16 bits it is no power of two from 1 to 256.
+    let Ok(size) = u16::try_from(size) else {
+        return Err(QueueFault);
+    };
+    let queue = make_queue(
+        size,
+        GuestAddress(descriptors),
+        GuestAddress(available),
+        GuestAddress(used),
+    )?;
+    *words = queue_words(queue);
+    Ok(())
 }
 
 // The call makes a queue of a size and three areas, with its counts at 0. It refuses with 16 and 27.
@@ -44,54 +54,55 @@ pub fn wt_make_queue(
 ) -> u64
     ensures { ReturnsWords (make_call size descriptors available used queue.old) result queue.new }
 {
-    if queue.len() == QUEUE_WORDS {
-        // Past 16 bits it is no power of two from 1 to 256.
-        if WIDEST < size {
-            return refusal::QUEUE;
-        }
-        let made = make_queue(
-            size as u16,
-            GuestAddress(descriptors),
-            GuestAddress(available),
-            GuestAddress(used),
-        );
-        return put_given(queue, made);
-    }
-    refusal::RECORD
+    let Some(queue) = queue.as_mut_array() else {
+        return refused(Refusal::Record);
+    };
+    number_of(put_made(size, descriptors, available, used, queue))
+}
+
+// A queue that is reset in its words, which stay as they are on a refusal.
+fn put_reset(words: &mut [u64]) -> Result<(), RecordFault>
+    ensures { ReturnsWords (reset_queue_call words.old) (number_of (record_reply result)) words.new }
+{
+    let queue = queue_of(words).ok_or(RecordFault)?.reset()?;
+    words.copy_from_slice(&queue_words(queue));
+    Ok(())
 }
 
 // The call resets a queue: its counts are 0 then, and no stop is left. It refuses with 27.
 pub fn wt_reset_queue(queue: &mut [u64]) -> u64
     ensures { ReturnsWords (reset_queue_call queue.old) result queue.new }
 {
-    if queue_fits(queue) {
-        let given = queue_of(queue).reset();
-        return put_given(queue, given);
+    number_of(put_reset(queue))
+}
+
+// The queue of a step or a run, where the records are of the lengths and widths that the header says.
+fn lent_queue(view: &[u64], device: &[u64], queue: &[u64]) -> Option<SplitQueue>
+    ensures { result ≡ queue_lent view.now device.now queue.now }
+{
+    if view.len() != VIEW_WORDS || device.len() != DEVICE_WORDS {
+        return None;
     }
-    refusal::RECORD
+    queue_of(queue)
 }
 
-// Are the records of the lengths and widths that the header says?
-fn records_fit(view: &[u64], device: &[u64], queue: &[u64], res: &[u64]) -> bool
-    ensures { result ≡ records_fit view.now device.now queue.now res.now }
-{
-    (view.len() == VIEW_WORDS)
-        & ((device.len() == DEVICE_WORDS) & (queue_fits(queue) & (res.len() == RESULT_WORDS)))
+// 1 where a chain was served, and 1 where the guest is to be notified.
+impl Told for Option<Served> {
+    ghost told = { served_words };
+
+    fn words(self) -> [u64; RESULT_WORDS] {
+        match self {
+            Some(served) => [1, u64::from(served.notify), 0],
+            None => [0; RESULT_WORDS],
+        }
+    }
 }
 
-fn flag(b: bool) -> u64
-    ensures { result ≡ flag b }
-{
-    if b { 1 } else { 0 }
-}
+impl Told for StepFault {
+    ghost told = { λ _. [] };
 
-fn say_step(outcome: StepOutcome) -> Said
-    ensures { said_report result ≡ step_result (answer_of outcome) }
-{
-    match outcome {
-        StepOutcome::Refused(n) => say(n as u64),
-        StepOutcome::Idle => say(0),
-        StepOutcome::Served(notify) => say_two(0, 1, flag(notify)),
+    fn words(self) -> [u64; RESULT_WORDS] {
+        [0; RESULT_WORDS]
     }
 }
 
@@ -108,24 +119,24 @@ pub fn wt_step(
     ensures { ReturnsStep (step_call view.now device.old queue.old memory.old
         res.old) result device.new queue.new memory.new res.new }
 {
-    if records_fit(view, device, queue, res) {
-        let moved = step_in_place(view, device, queue_of(queue), memory);
-        let next = moved.queue;
-        let outcome = moved.outcome;
-        put_queue(queue, next);
-        return tell(res, say_step(outcome));
-    }
-    refusal::RECORD
+    let Some(record) = lent_queue(view, device, queue) else {
+        return refused(Refusal::Record);
+    };
+    let Some(res) = res.as_mut_array() else {
+        return refused(Refusal::Record);
+    };
+    let moved = step_in_place(view, device, record, memory);
+    queue.copy_from_slice(&queue_words(moved.queue));
+    tell(res, moved.outcome)
 }
 
-fn say_run(served: u64, notified: bool, end: RunEnd) -> Said
-    ensures { said_report result ≡ run_result served notified (run_end_of end) }
-{
-    let notify = flag(notified);
-    match end {
-        RunEnd::AllDone => say_three(0, served, notify, 0),
-        RunEnd::Idle => say_three(0, served, notify, 1),
-        RunEnd::Refused(n) => say_three(n as u64, served, notify, 0),
+// How many were served, 1 where one notified, and 1 where the end was idle.
+impl Told for Ran {
+    ghost told = { run_words };
+
+    fn words(self) -> [u64; RESULT_WORDS] {
+        let idle = matches!(self.end, Ok(RunEnd::Idle));
+        [self.served, u64::from(self.notified), u64::from(idle)]
     }
 }
 
@@ -143,12 +154,14 @@ pub fn wt_run(
     ensures { ReturnsStep (run_call view.now device.old queue.old memory.old k
         res.old) result device.new queue.new memory.new res.new }
 {
-    if records_fit(view, device, queue, res) {
-        let ran = run_steps(view, device, queue_of(queue), memory, k);
-        let next = ran.queue;
-        let end = ran.end;
-        put_queue(queue, next);
-        return tell(res, say_run(ran.served, ran.notified, end));
-    }
-    refusal::RECORD
+    let Some(record) = lent_queue(view, device, queue) else {
+        return refused(Refusal::Record);
+    };
+    let Some(res) = res.as_mut_array() else {
+        return refused(Refusal::Record);
+    };
+    let ran = run_steps(view, device, record, memory, k);
+    queue.copy_from_slice(&queue_words(ran.queue));
+    *res = ran.words();
+    number_of(ran.end)
 }

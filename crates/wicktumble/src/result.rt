@@ -1,80 +1,87 @@
-// What a call says: its number, and the words of its result that it has.
-ghost use Rattle.std.specs.Prelude.{◌≡◌, [], ◌∷◌, length};
-ghost use Rattle.map_check.specs.Check.{reply};
-ghost use Rattle.wicktumble.specs.Result.{Returns, report_of, reply_report, result_length};
-ghost use Rattle.wicktumble.specs.Promises.{said_report};
+// What a call tells: its number, and the words of its result.
+ghost use Rattle.std.specs.Prelude.{◌≡◌, List, [], ℕ};
+ghost use Rattle.map_records.specs.Refusal.{number};
+ghost use Rattle.map_check.specs.Check.{fault_reply};
+ghost use Rattle.wicktumble.specs.Result.{Returns, padded, places};
+ghost use Rattle.wicktumble.specs.Maps.{found_words};
+ghost use Rattle.wicktumble.specs.Promises.{told_by};
 
-use map_check::check;
-use map_check::check::MapAnswer;
+use map_check::answer::{Fault, RecordFault, number_of};
+use map_check::check::MapFault;
+use map_records::map::Found;
+use map_records::refusal::Refusal;
 
 // The words of a result.
 pub const RESULT_WORDS: usize = 3;
 
-// The words that a call has not are 0.
-#[derive(Clone, Copy)]
-pub struct Said {
-    pub number: u64,
-    pub first: u64,
-    pub second: u64,
-    pub third: u64,
+// What an answer or a fault has for the words of a result.
+pub trait Told: Copy {
+    ghost told: { Self → List ℕ };
+
+    // Its words, and 0 for each that it has not.
+    fn words(self) -> [u64; RESULT_WORDS]
+        ensures { result ≡ padded (told self) };
 }
 
-// A call says the words that it has. Each function is the next with a 0 behind, so that a word more in
-// a result touches the last alone, and no call that has fewer.
-pub fn say(number: u64) -> Said
-    ensures { said_report result ≡ report_of number [] }
-{
-    say_one(number, 0)
-}
+impl Told for () {
+    ghost told = { λ _. [] };
 
-pub fn say_one(number: u64, first: u64) -> Said
-    ensures { said_report result ≡ report_of number (first ∷ []) }
-{
-    say_two(number, first, 0)
-}
-
-pub fn say_two(number: u64, first: u64, second: u64) -> Said
-    ensures { said_report result ≡ report_of number (first ∷ second ∷ []) }
-{
-    say_three(number, first, second, 0)
-}
-
-pub fn say_three(number: u64, first: u64, second: u64, third: u64) -> Said
-    ensures { said_report result ≡ report_of number (first ∷ second ∷ third ∷ []) }
-{
-    Said {
-        number,
-        first,
-        second,
-        third,
+    fn words(self) -> [u64; RESULT_WORDS] {
+        [0; RESULT_WORDS]
     }
 }
 
-// All words into the result; gives the number.
-pub fn tell(res: &mut [u64], said: Said) -> u64
-    requires { length res.old ≡ result_length }
-    ensures { Returns (said_report said) result res.new }
-{
-    res[0] = said.first;
-    res[1] = said.second;
-    res[2] = said.third;
-    said.number
+// 1, the region and the offset in it, or zeros where nothing is there.
+impl Told for Option<Found> {
+    ghost told = { found_words };
+
+    fn words(self) -> [u64; RESULT_WORDS] {
+        match self {
+            Some(found) => [1, found.region as u64, found.offset.0],
+            None => [0; RESULT_WORDS],
+        }
+    }
 }
 
-// The number and the regions that the check of a map names.
-pub fn say_map(answer: MapAnswer) -> Said
-    ensures { said_report result ≡ reply_report (reply answer) }
-{
-    let number = check::number_of(answer);
-    match answer {
-        MapAnswer::Accepted => say(number),
-        MapAnswer::Count => say(number),
-        MapAnswer::Kind(n) => say_two(number, n as u64, n as u64),
-        MapAnswer::Field(n) => say_two(number, n as u64, n as u64),
-        MapAnswer::Link(n) => say_two(number, n as u64, n as u64),
-        MapAnswer::Memory(i, j) => say_two(number, i as u64, j as u64),
-        MapAnswer::Managed(i, j) => say_two(number, i as u64, j as u64),
-        MapAnswer::Port(i, j) => say_two(number, i as u64, j as u64),
-        MapAnswer::Overlap(i, j) => say_two(number, i as u64, j as u64),
+impl Told for RecordFault {
+    ghost told = { λ _. [] };
+
+    fn words(self) -> [u64; RESULT_WORDS] {
+        [0; RESULT_WORDS]
     }
+}
+
+// The regions that the check of a map names.
+impl Told for MapFault {
+    ghost told = { λ f. places (fault_reply f) };
+
+    fn words(self) -> [u64; RESULT_WORDS] {
+        match self {
+            MapFault::Count => [0; RESULT_WORDS],
+            MapFault::Kind(n) | MapFault::Field(n) | MapFault::Link(n) => [n as u64, n as u64, 0],
+            MapFault::Memory(i, j)
+            | MapFault::Managed(i, j)
+            | MapFault::Port(i, j)
+            | MapFault::Overlap(i, j) => [i as u64, j as u64, 0],
+        }
+    }
+}
+
+// The words of an answer into the result; gives the number.
+pub fn tell<T: Told, E: Fault + Told>(res: &mut [u64; RESULT_WORDS], answer: Result<T, E>) -> u64
+    ensures { Returns (told_by T.told E.told E.reply answer) result res.new }
+{
+    let number = number_of(answer);
+    *res = match answer {
+        Ok(found) => found.words(),
+        Err(fault) => fault.words(),
+    };
+    number
+}
+
+// The number of a call that is refused before anything is written.
+pub fn refused(refusal: Refusal) -> u64
+    ensures { result ≡ number refusal }
+{
+    u64::from(refusal.number())
 }

@@ -1,46 +1,52 @@
 // Routing of accesses, and what a view gives an address.
-ghost use Rattle.std.specs.Prelude.{◌≡◌};
+ghost use Rattle.std.specs.Prelude.{◌≡◌, true, false, [], option_map, MatchResult};
+ghost use Rattle.device_words.specs.Words.{device_of};
+ghost use Rattle.routing.specs.Route.{RoutesAll};
 ghost use Rattle.wicktumble.specs.Result.{Returns};
-ghost use Rattle.wicktumble.specs.Promises.{said_report};
-ghost use Rattle.routing.specs.Look.{looked_by};
-ghost use Rattle.routing.specs.Route.{routed_by, RoutesAll};
-ghost use Rattle.wicktumble.specs.Maps.{walk_result};
-ghost use Rattle.wicktumble.specs.Routes.{route_result, route_by, route_call, route_all_call, look_up_call};
+ghost use Rattle.wicktumble.specs.Routes.{device_fits, route_call, route_all_call, look_up_call};
+ghost use Rattle.wicktumble.specs.Promises.{route_words, device_given};
 
-use crate::result::{RESULT_WORDS, Said, say, say_three, say_two, tell};
+use crate::result::{RESULT_WORDS, Told, refused, tell};
 use device_words::words::DEVICE_WORDS;
+use map_check::answer::{RecordFault, number_of};
 use map_records::map::GuestAddress;
-use map_records::refusal;
+use map_records::refusal::Refusal;
 use map_records::words::VIEW_WORDS;
-use routing::route;
-use routing::route::RouteAnswer;
-use routing::view::{LookUp, look_up};
+use routing::answer::{Route, RouteFault};
+use routing::route::{route, route_all};
+use routing::view::look_up;
 
-fn say_route(answer: RouteAnswer) -> Said
-    ensures { said_report result ≡ route_result (routed_by answer) }
-{
-    match answer {
-        RouteAnswer::Refused(n) => say(n),
-        RouteAnswer::Memory(place) => say_two(0, 1, place),
-        RouteAnswer::Port(port, offset) => say_three(0, 2, port, offset.0),
+// 1 and the place in memory, or 2, the port and the offset in its region.
+impl Told for Route {
+    ghost told = { route_words };
+
+    fn words(self) -> [u64; RESULT_WORDS] {
+        match self {
+            Route::Memory(place) => [1, place, 0],
+            Route::Port(port, offset) => [2, port, offset.0],
+        }
     }
 }
 
-// With a device, or without one where its words are none.
-fn route_by(
-    view: &[u64],
-    memory_length: u64,
-    device: &[u64],
-    address: u64,
-    width: u64,
-) -> RouteAnswer
-    ensures { routed_by result ≡ route_by view.now memory_length device.now address width }
-{
-    let a = GuestAddress(address);
-    if device.len() == 0 {
-        return route::route_without_device(view, memory_length, a, width);
+impl Told for RouteFault {
+    ghost told = { λ _. [] };
+
+    fn words(self) -> [u64; RESULT_WORDS] {
+        [0; RESULT_WORDS]
     }
-    route::route(view, memory_length, device, a, width)
+}
+
+// The device of an access: none where it has no words.
+fn lent_device(device: &[u64]) -> Result<Option<&[u64]>, RecordFault>
+    ensures { MatchResult result
+        (λ d. (device_fits device.now ≡ true) × (option_map (λ x. device_of x.now) d ≡ device_given device.now))
+        (λ _. device_fits device.now ≡ false) }
+{
+    match device.len() {
+        0 => Ok(None),
+        DEVICE_WORDS => Ok(Some(device)),
+        _ => Err(RecordFault),
+    }
 }
 
 // The call routes one access of a width in bytes; a device of no words is none. The result has 1 and the
@@ -56,12 +62,19 @@ pub fn wt_route(
     ensures { Returns (route_call view.now memory_length device.now address width res.old)
         result res.new }
 {
-    let known = (device.len() == 0) | (device.len() == DEVICE_WORDS);
-    if (view.len() == VIEW_WORDS) & (known & (res.len() == RESULT_WORDS)) {
-        let answer = route_by(view, memory_length, device, address, width);
-        return tell(res, say_route(answer));
-    }
-    refusal::RECORD
+    let Some(view) = view.as_array::<VIEW_WORDS>() else {
+        return refused(Refusal::Record);
+    };
+    let Ok(device) = lent_device(device) else {
+        return refused(Refusal::Record);
+    };
+    let Some(res) = res.as_mut_array() else {
+        return refused(Refusal::Record);
+    };
+    tell(
+        res,
+        route(view, memory_length, device, GuestAddress(address), width),
+    )
 }
 
 // The call routes many accesses, for which view and device are judged once: two words each, and for each
@@ -77,20 +90,10 @@ pub fn wt_route_all(
         (route_all_call view.now memory_length device.now accesses.now answers.old)
         result answers.new }
 {
-    if device.len() == 0 {
-        return route::route_all_without_device(view, memory_length, accesses, answers);
-    }
-    route::route_all(view, memory_length, device, accesses, answers)
-}
-
-fn say_look_up(found: LookUp) -> Said
-    ensures { said_report result ≡ walk_result (looked_by found) }
-{
-    match found {
-        LookUp::At(region, offset) => say_three(0, 1, region as u64, offset.0),
-        LookUp::Nothing => say(0),
-        LookUp::Record => say(refusal::RECORD),
-    }
+    let Ok(device) = lent_device(device) else {
+        return refused(Refusal::Record);
+    };
+    number_of(route_all(view, memory_length, device, accesses, answers))
 }
 
 // The call says what a view gives an address, with the result of `wt_walk`. It refuses with 27, which
@@ -98,9 +101,11 @@ fn say_look_up(found: LookUp) -> Said
 pub fn wt_look_up(view: &[u64], memory_length: u64, address: u64, res: &mut [u64]) -> u64
     ensures { Returns (look_up_call view.now memory_length address res.old) result res.new }
 {
-    if (view.len() == VIEW_WORDS) & (res.len() == RESULT_WORDS) {
-        let found = look_up(view, memory_length, GuestAddress(address));
-        return tell(res, say_look_up(found));
-    }
-    refusal::RECORD
+    let Some(view) = view.as_array::<VIEW_WORDS>() else {
+        return refused(Refusal::Record);
+    };
+    let Some(res) = res.as_mut_array() else {
+        return refused(Refusal::Record);
+    };
+    tell(res, look_up(view, memory_length, GuestAddress(address)))
 }

@@ -1,20 +1,8 @@
--- `device_words::bytes::number_at` meets its contract.
--- The invariant: the bytes read so far, from the last on, give the value. The measure is how many are left. Assumes nothing.
-use Rattle.device_words.proofs.ByteLaws.{reading_starts, reading_ends, reading_fits, reading_turn}
+-- `device_words::bytes::number_at` meets its contract. Assumes nothing.
 use native.Mathlib.Omega.{arith}
+use Rattle.device_words.proofs.ByteLaws.{read_le}
 use Rattle.device_words.proofs.bytes.number_at.Goals as goal
 
-pub loop-i-init : goal.loop-i-init
-loop-i-init c = reading_starts _ _ _
-
-pub overflow_mul-value : goal.overflow_mul-value
-overflow_mul-value c = omega (arith, reading_fits _ _ _ _ _ c.loop-i.invariant c.loop-i-test.true (omega arith))
-
-pub overflow_add-value : goal.overflow_add-value
-overflow_add-value c = omega (arith, reading_fits _ _ _ _ _ c.loop-i.invariant c.loop-i-test.true (omega arith))
-
-pub loop-i-preserved : goal.loop-i-preserved
-loop-i-preserved c = reading_turn _ _ _ _ _ c.loop-i.invariant c.loop-i-test.true _ c.wide.ensures.0 c.wide.ensures.1
-
 pub returns : goal.returns
-returns c = reading_ends _ _ _ _ _ c.loop-i.invariant c.loop-i-test.false
+returns c = let a = c.args in
+    read_le a.bytes.now a.at a.k _ c.copy_from_slice.ensures.after c.requires.0 c.requires.1 (λ i. omega (arith, c.type_inv.bytes i)) c.from_le_bytes.ensures

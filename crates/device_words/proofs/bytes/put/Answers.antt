@@ -1,22 +1,9 @@
 -- `device_words::bytes::put` meets its contract. Assumes nothing.
-use mathlib.Core.Path.{◌≡◌, refl, sym, ◌∙◌}
-use Prim.Native.Nat.{◌+◌, ◌%◌}
-use native.Mathlib.Nat.{add-zero}
+use mathlib.Core.Path.{◌∙◌}
 use native.Mathlib.Omega.{arith}
-use lib.ListN.{length, set, length-set}
-use Rattle.device_words.proofs.ByteLaws.{put_turn, put_ends}
+use Rattle.device_words.proofs.ByteLaws.{le_length, le_bytes, part_sets}
 use Rattle.device_words.proofs.bytes.put.Goals as goal
 
-pub loop-i-init : goal.loop-i-init
-loop-i-init c = (omega arith, rw add-zero, refl)
-
-pub loop-i-preserved : goal.loop-i-preserved
-loop-i-preserved c = let l = c.loop-i in
-    let same : length (set l.out (c.args.at + l.i) (l.rest % 256)) ≡ length l.out = simp length-set in
-    (omega arith, put_turn _ _ _ _ c.loop-i-test.true ∙ l.invariant.1, same ∙ l.invariant.2)
-
-pub shape_of-out : goal.shape_of-out
-shape_of-out c = c.loop-i.invariant.2
-
 pub returns : goal.returns
-returns c = sym (put_ends _ _ _ _ c.loop-i-test.false) ∙ c.loop-i.invariant.1
+returns c = let long = le_length 8 c.args.n in
+    part_sets c.args.at c.args.out.now (c.copy_from_slice.ensures.after ∙ c.to_le_bytes.ensures ∙ le_bytes c.args.n) (omega (arith, long)) (omega (arith, long))

@@ -6,4 +6,4 @@ use Rattle.device_words.proofs.WordLaws.{held_any}
 use Rattle.device_words.proofs.pins.any_pinned.Goals as goal
 
 pub returns : goal.returns
-returns c = let a = c.args in ap not c.none_set.ensures ∙ held_any (device_at a.device.now).pinned a.from.0 a.n
+returns c = let a = c.args in ap not c.none_set.ensures ∙ held_any (device_at a.device.now).pinned a.run.first.0 a.run.count

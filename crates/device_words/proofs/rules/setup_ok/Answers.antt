@@ -23,6 +23,6 @@ pub returns-then-block_ok : goal.returns-then-block_ok
 unfolding setup_ok
 returns-then-block_ok c = rw (sym c.block_ok.ensures ∙ c.if-block_ok.true, c.region_ok.ensures, c.addr_ok.ensures, c.sizes_ok.ensures)
 
-pub returns : goal.returns
+pub returns-else-block_ok : goal.returns-else-block_ok
 unfolding setup_ok
-returns c = rw (sym c.block_ok.ensures ∙ c.if-block_ok.false)
+returns-else-block_ok c = rw (sym c.block_ok.ensures ∙ c.if-block_ok.false) c.if-block_ok.false

@@ -12,5 +12,5 @@ returns-then-b-ge64 c = below_all c.args.b c.if-b-ge64.true
 pub overflow_sub-result : goal.overflow_sub-result
 overflow_sub-result c = let b = c.args.b in omega (arith, shl_one b (omega arith), pow_pos b)
 
-pub returns : goal.returns
-returns c = let b = c.args.b in ap (λ (x : ℕ). x - 1) (shl_one b (omega arith)) ∙ below_some b (omega arith)
+pub returns-else-b-ge64 : goal.returns-else-b-ge64
+returns-else-b-ge64 c = let b = c.args.b in ap (λ (x : ℕ). x - 1) (shl_one b (omega arith)) ∙ below_some b (omega arith)

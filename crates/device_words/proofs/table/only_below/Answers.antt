@@ -1,30 +1,34 @@
 -- `device_words::table::only_below` meets its contract. Assumes nothing.
-use mathlib.Core.Path.{sym}
-use mathlib.Core.Bool.{not, ◌||◌}
+use mathlib.Core.Path.{◌≡◌, sym, ◌∙◌}
+use mathlib.Core.List.{List, ◌∷◌}
+use Prim.Native.Nat.{ℕ, ◌-◌, ◌/◌}
 use native.Mathlib.Omega.{arith}
-use lib.Dec.{ltb}
-use Rattle.device_words.specs.Table.{bit_at}
-use Rattle.device_words.proofs.TableLaws.{all_of, more_words, low_set, word_low_all, word_high_not}
+use lib.Dec.{eqb}
+use lib.ListN.{length, drop, length-drop, length-take, take}
+use lib.Seq.{take_all}
+use borrow.Author.Rules.{rules}
+use borrow.Author.Tests.{tests, ne_eqb}
+use Rattle.std.proofs.lemmas.Iterator.{YieldsList-from_slice}
+use Rattle.std.proofs.lemmas.Iterator.Search.{all_from_yields_List}
+use Rattle.device_words.proofs.TableLaws.{all_words_below, first_over, rest_below}
 use Rattle.device_words.proofs.table.only_below.Goals as goal
 
-pub loop-i-init : goal.loop-i-init
-loop-i-init c = (omega arith, omega arith, omega arith, λ b p. low_set c.args.words.now c.args.n b (omega arith))
+-- the words from word s on
+whole : (t : List ℕ) (s x : ℕ) (rest : List ℕ) → take (length t - s) (drop s t) ≡ x ∷ rest → drop s t ≡ x ∷ rest
+whole t s x rest e = sym (take_all (length t - s) (drop s t) (omega (arith, length-drop s t))) ∙ e
 
-pub returns-then-words-i-ne0 : goal.returns-then-words-i-ne0
-returns-then-words-i-ne0 c = let a = c.args in
-    let at = c.loop-i in
-    sym (word_high_not a.words.now a.n at.i at.low (omega arith) (λ k p. omega (arith, at.invariant.1)) c.loop-i-test.true (omega arith) c.if-words-i-ne0.true)
+pub returns-in_default : goal.returns-in_default
+returns-in_default c = sym (all_words_below c.args.words.now c.args.n
+    (omega (arith, c.requires.0, c.in_default.ensures.cases, length-take (length c.args.words.now - c.args.n / 64) (drop (c.args.n / 64) c.args.words.now), length-drop (c.args.n / 64) c.args.words.now)))
 
-pub loop-i-preserved : goal.loop-i-preserved
-loop-i-preserved c = let a = c.args in
-    let at = c.loop-i in (
-      omega arith,
-      omega (arith, at.invariant.1),
-      omega arith,
-      more_words (λ b. not (bit_at a.words.now b) || ltb b a.n) at.i at.invariant.3
-          (word_low_all a.words.now a.n at.i at.low (λ k p. omega (arith, at.invariant.1)) c.if-words-i-ne0.false),
-    )
+pub returns-then-first-low-eq0 : goal.returns-then-first-low-eq0
+returns-then-first-low-eq0 c = let a = c.args in
+    all_from_yields_List (λ w. eqb w 0) c.all.new.self _ c.all.result c.all.ensures.ran (YieldsList-from_slice c.in-Some.rest.now (cc)) (λ x b q k. search (rules, tests))
+    ∙ rest_below a.words.now a.n (record { size = c.requires.0; words = λ j p. search rules }) c.in-Some.first.now c.in-Some.rest.now
+    (whole a.words.now (a.n / 64) c.in-Some.first.now c.in-Some.rest.now c.in-Some.ensures.cases.0) c.if-first-low-eq0.true
 
-pub returns : goal.returns
-returns c = let a = c.args in
-    sym (all_of (λ b. not (bit_at a.words.now b) || ltb b a.n) 1024 (λ b p. c.loop-i.invariant.3 b (omega arith)))
+pub returns-else-first-low-eq0 : goal.returns-else-first-low-eq0
+returns-else-first-low-eq0 c = let a = c.args in
+    ne_eqb _ 0 c.if-first-low-eq0.false
+    ∙ sym (first_over a.words.now a.n (record { size = c.requires.0; words = λ j p. search rules }) c.in-Some.first.now c.in-Some.rest.now
+    (whole a.words.now (a.n / 64) c.in-Some.first.now c.in-Some.rest.now c.in-Some.ensures.cases.0) c.if-first-low-eq0.false)

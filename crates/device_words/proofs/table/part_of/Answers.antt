@@ -1,25 +1,18 @@
 -- `device_words::table::part_of` meets its contract. Assumes nothing.
-use mathlib.Core.Path.{sym}
-use mathlib.Core.Bool.{not, ◌||◌}
-use native.Mathlib.Omega.{arith}
-use Rattle.device_words.specs.Table.{bit_at}
-use Rattle.device_words.proofs.TableLaws.{all_of, more_words, word_part_all, word_part_not}
+use mathlib.Core.Path.{◌∙◌}
+use lib.Bits.{bit_and}
+use lib.Dec.{eqb}
 use borrow.Author.Rules.{rules}
+use borrow.Author.Tests.{tests}
+use Rattle.std.proofs.lemmas.Iterator.{YieldsList-from_slice, YieldsList-from_zip}
+use Rattle.std.proofs.lemmas.Iterator.Consumers.{YieldsList-at}
+use Rattle.std.proofs.lemmas.Iterator.Search.{all_from_yields_List}
+use Rattle.device_words.proofs.TableLaws.{words_part}
 use Rattle.device_words.proofs.table.part_of.Goals as goal
-
-pub loop-i-init : goal.loop-i-init
-loop-i-init c = (search rules, λ b p. absurd (omega arith))
-
-pub returns-then-word-whole : goal.returns-then-word-whole
-returns-then-word-whole c = let a = c.args in
-    let i = c.loop-i.i in
-    sym (word_part_not a.words.now a.whole.now i c.loop-i-test.true (omega arith) (omega arith) c.if-word-whole.true)
-
-pub loop-i-preserved : goal.loop-i-preserved
-loop-i-preserved c = let a = c.args in
-    let i = c.loop-i.i in
-    (omega arith, more_words (λ b. not (bit_at a.words.now b) || bit_at a.whole.now b) i c.loop-i.invariant.1 (word_part_all a.words.now a.whole.now i c.if-word-whole.false))
 
 pub returns : goal.returns
 returns c = let a = c.args in
-    sym (all_of (λ b. not (bit_at a.words.now b) || bit_at a.whole.now b) 1024 (λ b p. c.loop-i.invariant.1 b (omega arith)))
+    all_from_yields_List (λ p. eqb (bit_and p.0 p.1) p.0) c.all.new.self _ c.all.result c.all.ensures.ran
+    (YieldsList-from_zip (YieldsList-at c.zip.ensures.first (YieldsList-from_slice a.words.now (cc))) (YieldsList-from_slice a.whole.now (cc)))
+    (λ x b q k. search (rules, tests))
+    ∙ words_part a.words.now a.whole.now (record { size = c.requires.0; words = λ j p. search rules }) (record { size = c.requires.1; words = λ j p. search rules })

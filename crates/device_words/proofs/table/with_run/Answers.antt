@@ -1,41 +1,32 @@
 -- `device_words::table::with_run` meets its contract. Assumes nothing.
-use mathlib.Core.Path.{sym, ◌∙◌}
-use Prim.Native.Nat.{◌+◌}
+use mathlib.Core.Path.{◌≡◌, refl, sym, subst}
+use Prim.Native.Nat.{ℕ, ◌+◌}
 use native.Mathlib.Omega.{arith}
-use lib.ListN.{get_or, set}
-use Rattle.device_words.proofs.WordLaws.{turned_none, turned_next, turned_end, word_here}
+use lib.ListN.{set}
 use borrow.Author.Rules.{rules}
+use Rattle.device_words.proofs.WordLaws.{Turned, turned_none, turned_next, turned_end}
 use Rattle.device_words.proofs.table.with_run.Goals as goal
 
-pub loop-end-init : goal.loop-end-init
-loop-end-init c = let a = c.args in
-    (omega arith, omega arith, omega arith, omega arith, turned_none a.words.now a.first.0 a.n a.on (record { size = c.requires.0; words = λ j p. search rules }))
+pub loop-i-init : goal.loop-i-init
+loop-i-init c = let a = c.args in
+    rw (c.into_iter-i-iterator.ensures.into_iter_gives, c.words-i-items.ensures.start, c.words-i-items.ensures.end)
+    (refl, omega (arith, a.run.room), turned_none a.words.now a.run.first.0 a.run.count a.on (record { size = c.requires; words = λ j p. search rules }))
 
-pub shape_of-words-then-end-le64 : goal.shape_of-words-then-end-le64
-shape_of-words-then-end-le64 c = let a = c.args in
-    let at = c.loop-end in
-    let here = word_here a.first.0 a.n at.i at.low at.end c.word_with-turned.result (get_or at.words at.i 0) a.on at.invariant.0 at.invariant.1 c.word_with-turned.ensures in
-    let next = turned_next a.words.now at.words a.first.0 a.n a.on at.i c.word_with-turned.result (omega (arith, at.invariant.1, c.requires.1, c.loop-end-test.true)) here at.invariant.4 in
-    next.table.size ∙ sym c.requires.0
-
-pub returns-then-end-le64 : goal.returns-then-end-le64
-returns-then-end-le64 c = let a = c.args in
-    let at = c.loop-end in
-    let here = word_here a.first.0 a.n at.i at.low at.end c.word_with-turned.result (get_or at.words at.i 0) a.on at.invariant.0 at.invariant.1 c.word_with-turned.ensures in
-    let next = turned_next a.words.now at.words a.first.0 a.n a.on at.i c.word_with-turned.result (omega (arith, at.invariant.1, c.requires.1, c.loop-end-test.true)) here at.invariant.4 in
-    turned_end a.words.now (set at.words at.i c.word_with-turned.result) a.first.0 a.n a.on (at.i + 1) (omega (arith, at.invariant.1, c.if-end-le64.true)) next
-
-pub loop-end-preserved : goal.loop-end-preserved
-loop-end-preserved c = let a = c.args in
-    let at = c.loop-end in
-    let here = word_here a.first.0 a.n at.i at.low at.end c.word_with-turned.result (get_or at.words at.i 0) a.on at.invariant.0 at.invariant.1 c.word_with-turned.ensures in
-    let next = turned_next a.words.now at.words a.first.0 a.n a.on at.i c.word_with-turned.result (omega (arith, at.invariant.1, c.requires.1, c.loop-end-test.true)) here at.invariant.4 in
-    (omega (arith, at.invariant.0, at.invariant.2), omega (arith, at.invariant.1, c.if-end-le64.false), omega arith, omega arith, next)
-
-pub shape_of-words : goal.shape_of-words
-shape_of-words c = c.loop-end.invariant.4.table.size ∙ sym c.requires.0
+pub loop-i-preserved : goal.loop-i-preserved
+loop-i-preserved c = let a = c.args in
+    let at = c.loop-i in
+    let step = c.in-Some.ensures.steps in
+    let i = c.in-Some.i in
+    let here : i ≡ at.i-iterator.start = omega (arith, step) in
+    let up : c.next.new.self.start ≡ i + 1 = omega (arith, step) in
+    let so_far = subst (λ (x : ℕ). Turned a.words.now at.words a.run.first.0 a.run.count a.on x) (sym here) at.invariant.2 in (
+      omega (arith, step),
+      omega (arith, step),
+      subst (λ (x : ℕ). Turned a.words.now (set at.words i c.turned.result) a.run.first.0 a.run.count a.on x) (sym up)
+          (turned_next a.words.now at.words a.run.first.0 a.run.count a.on i c.turned.result (omega (arith, step, a.run.room)) c.turned.ensures so_far),
+    )
 
 pub returns : goal.returns
 returns c = let a = c.args in
-    let at = c.loop-end in
-    turned_end a.words.now at.words a.first.0 a.n a.on at.i (omega (arith, c.loop-end-test.false, at.invariant.1)) at.invariant.4
+    let at = c.loop-i in
+    turned_end a.words.now at.words a.run.first.0 a.run.count a.on at.i-iterator.start (omega (arith, c.in-None.ensures.steps)) at.invariant.2

@@ -1,10 +1,8 @@
 use mathlib.Core.Path.{◌≡◌}
-use Prim.Native.Nat.{◌+◌, ◌-◌, ◌*◌, ◌≤◌, ◌<◌}
+use Prim.Native.Nat.{◌+◌, ◌/◌, ◌≤◌}
 use Rattle.device_words.proofs.WordLaws.{Turned}
 use Rattle.device_words.proofs.table.with_run.Given as goal
 
-abbrev pub invariant-loop-end : goal.invariant-loop-end
-invariant-loop-end l = (l.low ≡ l.from - l.i * 64) × (l.i * 64 + l.end ≡ l.from + l.n) × (l.low < 64) × (l.low ≤ l.end) × Turned l.initial.words l.words l.from l.n l.on l.i
-
-abbrev pub decreases-loop-end : goal.decreases-loop-end
-decreases-loop-end l = l.end
+abbrev pub invariant-loop-i : goal.invariant-loop-i
+invariant-loop-i l =
+    (l.i-iterator.end ≡ (l.run.first.0 + l.run.count + 63) / 64) × (l.i-iterator.start ≤ l.i-iterator.end) × Turned l.initial.words l.words l.run.first.0 l.run.count l.on l.i-iterator.start

@@ -13,8 +13,8 @@ returns-then-on c =
     run_set a.low a.end c.bits_below-upto.result c.bits_below-before.result a.word c.bits_below-upto.ensures c.bits_below-before.ensures c.requires (omega arith)
     ∙ ap (λ (x : Bool). word_of (λ k. cond (leb a.low k && ltb k a.end) x (bit_of a.word k)) 64) (sym c.if-on.true)
 
-pub returns : goal.returns
-returns c =
+pub returns-else-on : goal.returns-else-on
+returns-else-on c =
     let a = c.args in
     run_unset a.low a.end c.bits_below-upto.result c.bits_below-before.result a.word c.bits_below-upto.ensures c.bits_below-before.ensures c.requires (omega arith)
     ∙ ap (λ (x : Bool). word_of (λ k. cond (leb a.low k && ltb k a.end) x (bit_of a.word k)) 64) (sym c.if-on.false)

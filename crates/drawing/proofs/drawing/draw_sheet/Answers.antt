@@ -1,38 +1,33 @@
 -- `drawing::drawing::draw_sheet` meets its contract. Assumes nothing.
-use mathlib.Core.Path.{sym, subst}
+use mathlib.Core.Path.{ap, sym, subst, ◌∙◌}
+use mathlib.Core.List.{List}
 use Prim.Native.Nat.{ℕ}
-use native.Mathlib.Omega.{arith}
 use lib.ListN.{length-replicate}
-use lib.Seq.{length-take-le}
 use Rattle.map_records.specs.Limits.{map_length}
 use Rattle.map_records.specs.declared.map.RegionMap.{RegionMap}
+use Rattle.map_check.specs.Reply.{passes}
 use Rattle.map_check.specs.Check.{Accepted}
-use Rattle.sheet.specs.Sheet.{read_sheet}
-use Rattle.sheet.proofs.ReadLaws.{ReadAs, read_as, sheet_accepted}
-use Rattle.listing.proofs.TextLaws.{puts_size, fills_put, sheet_refused, sheet_passed}
+use Rattle.sheet.proofs.ReadLaws.{read_as, read_accepted, sheet_accepted}
+use Rattle.listing.specs.Text.{Fills}
+use Rattle.listing.proofs.TextLaws.{sheet_refused, sheet_passed}
 use Rattle.drawing.specs.Drawing.{map_drawing, drawing_text}
 use Rattle.drawing.proofs.drawing.draw_sheet.Goals as goal
 
-pub returns-then-refused-ne0 : goal.returns-then-refused-ne0
+pub returns-in-Err-clause-fills : goal.returns-in-Err-clause-fills
 unfolding drawing_text
-returns-then-refused-ne0 c =
-    let r = c.refuse.ensures in
-    let told : ReadAs (read_sheet c.args.sheet.now c.args.memory_length) c.number_of-refused.result c.read_sheet-answer.new.map = read_as _ _ _ _ c.read_sheet-answer.result _ (length-replicate {A = ℕ} map_length 0) c.read_sheet-answer.ensures.0 c.read_sheet-answer.ensures.1 c.number_of-refused.ensures in
-    record { fills = sheet_refused told map_drawing c.if-refused-ne0.true r.fills; upper_bound = omega (arith, r.upper_bound) }
+returns-in-Err-clause-fills c =
+    let told = read_as _ _ _ _ c.read_sheet.result (length-replicate {A = ℕ} map_length 0) c.read_sheet.ensures.0 c.read_sheet.ensures.1 in
+    sheet_refused told map_drawing c.in-Err.is (c.from.ensures ∙ c.number.ensures ∙ c.refusal.ensures) c.refuse.ensures.fills
 
-pub put_rows-n-requires : goal.put_rows-n-requires
-put_rows-n-requires c =
-    let told : ReadAs (read_sheet c.args.sheet.now c.args.memory_length) c.number_of-refused.result c.read_sheet-answer.new.map = read_as _ _ _ _ c.read_sheet-answer.result _ (length-replicate {A = ℕ} map_length 0) c.read_sheet-answer.ensures.0 c.read_sheet-answer.ensures.1 c.number_of-refused.ensures in
-    let z = c.if-refused-ne0.false in
-    (subst (λ (x : RegionMap). Accepted x c.args.memory_length) (sym (told.map z)) (sheet_accepted _ _ (told.said.passed z)), length-replicate {A = ℕ} 2765 0)
+pub push_rows-requires : goal.push_rows-requires
+push_rows-requires c =
+    let told = read_as _ _ _ _ c.read_sheet.result (length-replicate {A = ℕ} map_length 0) c.read_sheet.ensures.0 c.read_sheet.ensures.1 in
+    let z = c.in_default.is in
+    (subst (λ (m : RegionMap). Accepted m c.args.memory_length) (sym (told.map z)) (sheet_accepted _ _ (ap passes (read_accepted told z))), c.new-text.ensures)
 
-pub slice_bounds-fill-end : goal.slice_bounds-fill-end
-slice_bounds-fill-end c = sym (length-take-le _ _ (omega (arith, puts_size c.put_rows-n.ensures.puts, c.put_rows-n.ensures.upper_bound, length-replicate {A = ℕ} 2765 0)))
-
-pub returns : goal.returns
+pub returns-clause-fills : goal.returns-clause-fills
 unfolding drawing_text
-returns c =
-    let p = c.put_rows-n.ensures in
-    let told : ReadAs (read_sheet c.args.sheet.now c.args.memory_length) c.number_of-refused.result c.read_sheet-answer.new.map = read_as _ _ _ _ c.read_sheet-answer.result _ (length-replicate {A = ℕ} map_length 0) c.read_sheet-answer.ensures.0 c.read_sheet-answer.ensures.1 c.number_of-refused.ensures in
-    let f = fills_put p.puts (omega (arith, p.upper_bound, length-replicate {A = ℕ} 2765 0)) c.fill.ensures in
-    record { fills = sheet_passed told map_drawing c.if-refused-ne0.false f.0; upper_bound = omega (arith, f.1, p.upper_bound) }
+returns-clause-fills c =
+    let told = read_as _ _ _ _ c.read_sheet.result (length-replicate {A = ℕ} map_length 0) c.read_sheet.ensures.0 c.read_sheet.ensures.1 in
+    sheet_passed told map_drawing c.in_default.is
+    (subst (λ (t : List ℕ). Fills t c.args.out.now c.fill.result c.fill.new.out) (c.deref.ensures.0 ∙ c.push_rows.ensures) c.fill.ensures)

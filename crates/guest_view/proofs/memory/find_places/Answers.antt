@@ -1,38 +1,6 @@
 -- `guest_view::memory::find_places` meets its contract. Assumes nothing.
-use Prim.Native.Nat.{◌^◌}
-use mathlib.Core.Path.{◌∙◌}
-use lib.ListN.{length}
-use Rattle.map_records.specs.Words.{view_of}
-use Rattle.guest_view.proofs.GuestLaws.{memory_front}
-use Rattle.guest_view.proofs.MemoryLaws.{fill_none}
-use Rattle.guest_view.proofs.StretchLaws.{some, runs_places, runs_room, ordered_room}
+use Rattle.std.proofs.Common.{rules}
 use Rattle.guest_view.proofs.memory.find_places.Goals as goal
 
-pub returns-then-count-eq0 : goal.returns-then-count-eq0
-returns-then-count-eq0 c = fill_none _ _ _ c.if-count-eq0.true
-
-pub stretch_at-here-requires : goal.stretch_at-here-requires
-stretch_at-here-requires c = record { judged = c.requires.judged; in_memory = memory_front (view_of c.args.view.now) c.args.addr.0 (length c.args.out.now) 1 c.requires.in_memory (some c.if-count-eq0.false) }
-
-pub overflow_sub-count : goal.overflow_sub-count
-overflow_sub-count c = some c.if-count-eq0.false
-
-pub places_from-requires : goal.places_from-requires
-places_from-requires c =
-    let found = c.stretch_at-here in
-    let view = view_of c.args.view.now in
-    runs_room view c.args.addr.0 found.result.place found.result.left (length c.args.out.now) found.ensures (some c.if-count-eq0.false) c.if-count-here.true
-    (2 ^ 64) c.requires.in_memory (ordered_room view c.requires.judged.ordered)
-
-pub returns-then-count-here : goal.returns-then-count-here
-returns-then-count-here c =
-    let found = c.stretch_at-here in
-    c.places_from.ensures
-    ∙ runs_places (view_of c.args.view.now) c.args.addr.0 found.result.place found.result.left (length c.args.out.now) found.ensures
-    (some c.if-count-eq0.false) c.if-count-here.true
-
-pub places_apart-requires : goal.places_apart-requires
-places_apart-requires c = c.requires
-
 pub returns : goal.returns
-returns c = c.places_apart.ensures
+returns c = c.fill.ensures (λ p. p) (λ p x h q. search rules)

@@ -9,31 +9,16 @@ use Rattle.guest_view.proofs.memory.write_bytes.Goals as goal
 pub loop-i-init : goal.loop-i-init
 loop-i-init c = (refl, refl)
 
-pub offset_bounds-places-i : goal.offset_bounds-places-i
-offset_bounds-places-i c = omega (arith, c.loop-i-test.true)
-
-pub bounds-places-i : goal.bounds-places-i
-bounds-places-i c = c.loop-i-test.true
-
 pub bounds-bytes-i : goal.bounds-bytes-i
 bounds-bytes-i c = omega (arith, c.loop-i-test.true, c.requires.places_len)
 
 pub bounds-mem-place : goal.bounds-mem-place
 bounds-mem-place c = omega (arith, c.loop-i.invariant.0, c.requires.within.each c.loop-i.i c.loop-i-test.true)
 
-pub overflow_add-i : goal.overflow_add-i
-overflow_add-i c = omega (arith, c.loop-i-test.true)
-
-pub loop-i-smaller : goal.loop-i-smaller
-loop-i-smaller c = omega (arith, c.loop-i-test.true)
-
 pub loop-i-preserved : goal.loop-i-preserved
 loop-i-preserved c =
     let p : c.loop-i.i < length c.args.bytes.now = omega (arith, c.loop-i-test.true, c.requires.places_len) in
     (simp length-set c.loop-i.invariant.0, write_turn _ _ _ _ c.loop-i-test.true p ∙ c.loop-i.invariant.1)
-
-pub shape_of-mem : goal.shape_of-mem
-shape_of-mem c = c.loop-i.invariant.0
 
 pub returns : goal.returns
 returns c = sym (write_ends _ _ _ _ c.loop-i-test.false) ∙ c.loop-i.invariant.1

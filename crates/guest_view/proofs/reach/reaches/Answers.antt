@@ -14,12 +14,6 @@ use Rattle.guest_view.proofs.reach.reaches.Goals as goal
 pub returns-then-count-eq0 : goal.returns-then-count-eq0
 returns-then-count-eq0 c = sym (all_true _ _ _ (λ e h. absurd (omega (arith, h, c.if-count-eq0.true))))
 
-pub overflow_sub-addr : goal.overflow_sub-addr
-overflow_sub-addr c = omega arith
-
-pub overflow_sub-count : goal.overflow_sub-count
-overflow_sub-count c = omega (arith, some c.if-count-eq0.false)
-
 pub returns-then-addr-count : goal.returns-then-addr-count
 returns-then-addr-count c =
     let p : 0 < c.args.count = some c.if-count-eq0.false in
@@ -28,45 +22,18 @@ returns-then-addr-count c =
 pub loop-done-init : goal.loop-done-init
 loop-done-init c = (omega arith, λ e h. absurd (omega (arith, h)))
 
-pub overflow_add-here : goal.overflow_add-here
-overflow_add-here c = omega (arith, c.if-addr-count.false, c.loop-done-test.true)
-
-pub overflow_sub-count-in-loop-done : goal.overflow_sub-count-in-loop-done
-overflow_sub-count-in-loop-done c = omega (arith, c.loop-done-test.true)
-
-pub overflow_sub-count-in-loop-done-2 : goal.overflow_sub-count-in-loop-done-2
-overflow_sub-count-in-loop-done-2 c = omega (arith, c.loop-done-test.true)
-
-pub extent_at-requires : goal.extent_at-requires
-extent_at-requires c = c.requires
-
-pub returns-in-Stop : goal.returns-in-Stop
-returns-in-Stop c =
+pub returns-in_default : goal.returns-in_default
+returns-in_default c =
     let s = c.args in
-    sym (turn_stops (view_guest (view_of s.view.now) s.block s.plugged.now).reach s.addr.0 c.loop-done.done c.extent_at.result c.extent_at.ensures s.count c.in-Stop.is c.loop-done-test.true)
-
-pub overflow_sub-count-in-Go : goal.overflow_sub-count-in-Go
-overflow_sub-count-in-Go c = omega (arith, c.loop-done-test.true)
-
-pub overflow_sub-count-in-Go-2 : goal.overflow_sub-count-in-Go-2
-overflow_sub-count-in-Go-2 c = omega (arith, c.loop-done-test.true)
+    sym (turn_stops (view_guest (view_of s.view.now) s.block s.plugged.now).reach s.addr.0 c.loop-done.done c.extent_at.result c.extent_at.ensures s.count c.in_default.is c.loop-done-test.true)
 
 pub returns-then-count-done : goal.returns-then-count-done
 returns-then-count-done c =
     let s = c.args in
-    sym (all_true (view_guest (view_of s.view.now) s.block s.plugged.now).reach s.addr.0 s.count (λ e h. (let it : (e : ℕ) → e < c.loop-done.done + c.in-Go.more + 1 → (view_guest (view_of c.args.view.now) c.args.block c.args.plugged.now).reach (c.args.addr.0 + e) ≡ true = let s = c.args in turn_goes (view_guest (view_of s.view.now) s.block s.plugged.now).reach s.addr.0 c.loop-done.done c.extent_at.result c.extent_at.ensures c.in-Go.more c.in-Go.is c.loop-done.invariant.1 in it) e (omega (arith, c.if-count-done.true, h, c.loop-done-test.true))))
-
-pub overflow_add-done : goal.overflow_add-done
-overflow_add-done c = omega (arith, c.if-count-done.false, c.loop-done-test.true, c.ranges.count)
-
-pub overflow_add-done-in-Go : goal.overflow_add-done-in-Go
-overflow_add-done-in-Go c = omega (arith, c.if-count-done.false, c.loop-done-test.true, c.ranges.count)
-
-pub loop-done-smaller : goal.loop-done-smaller
-loop-done-smaller c = omega (arith, c.if-count-done.false, c.loop-done-test.true)
+    sym (all_true (view_guest (view_of s.view.now) s.block s.plugged.now).reach s.addr.0 s.count (λ e h. (let it : (e : ℕ) → e < c.loop-done.done + c.in-Some.more + 1 → (view_guest (view_of c.args.view.now) c.args.block c.args.plugged.now).reach (c.args.addr.0 + e) ≡ true = let s = c.args in turn_goes (view_guest (view_of s.view.now) s.block s.plugged.now).reach s.addr.0 c.loop-done.done c.extent_at.result c.extent_at.ensures c.in-Some.more c.in-Some.is c.loop-done.invariant.1 in it) e (omega (arith, c.if-count-done.true, h, c.loop-done-test.true))))
 
 pub loop-done-preserved : goal.loop-done-preserved
-loop-done-preserved c = (omega (arith, c.if-count-done.false, c.loop-done-test.true), (let it : (e : ℕ) → e < c.loop-done.done + c.in-Go.more + 1 → (view_guest (view_of c.args.view.now) c.args.block c.args.plugged.now).reach (c.args.addr.0 + e) ≡ true = let s = c.args in turn_goes (view_guest (view_of s.view.now) s.block s.plugged.now).reach s.addr.0 c.loop-done.done c.extent_at.result c.extent_at.ensures c.in-Go.more c.in-Go.is c.loop-done.invariant.1 in it))
+loop-done-preserved c = (omega (arith, c.if-count-done.false, c.loop-done-test.true), (let it : (e : ℕ) → e < c.loop-done.done + c.in-Some.more + 1 → (view_guest (view_of c.args.view.now) c.args.block c.args.plugged.now).reach (c.args.addr.0 + e) ≡ true = let s = c.args in turn_goes (view_guest (view_of s.view.now) s.block s.plugged.now).reach s.addr.0 c.loop-done.done c.extent_at.result c.extent_at.ensures c.in-Some.more c.in-Some.is c.loop-done.invariant.1 in it))
 
 pub returns : goal.returns
 returns c =

@@ -72,12 +72,6 @@ offset_bounds-owner-n-then-first-eq0 c = omega (arith, (let it : c.range_at-rang
 pub bounds-owner-n-then-first-eq0 : goal.bounds-owner-n-then-first-eq0
 bounds-owner-n-then-first-eq0 c = (let it : c.range_at-range.result.region < 32 = let f = range_facts c.args.memory c.args.region (range_of (view_of c.args.view.now) c.loop-k.k) (let it : range_ok c.args.memory c.args.region (range_of (view_of c.args.view.now) c.loop-k.k) ≡ true = sym (let it : c.range_ok.result ≡ range_ok c.args.memory c.args.region (range_of (view_of c.args.view.now) c.loop-k.k) = c.range_ok.ensures ∙ ap (range_ok c.args.memory c.args.region) c.range_at-range.ensures in it) ∙ c.if-not-range_ok.false in it) in omega (arith, f.known, ap (λ (r : FlatRange). r.region) c.range_at-range.ensures) in it)
 
-pub overflow_add-k : goal.overflow_add-k
-overflow_add-k c = omega (arith, c.loop-k-test.true, c.loop-k.invariant.1)
-
-pub loop-k-smaller : goal.loop-k-smaller
-loop-k-smaller c = omega (arith, c.loop-k-test.true)
-
 pub loop-k-preserved : goal.loop-k-preserved
 loop-k-preserved c =
     let a = c.args in

@@ -1,19 +1,14 @@
-use Rattle.map_check.specs.declared.search.Pair.TheVariants.{Nothing}
-use Rattle.map_check.specs.Promises.{clash}
-use Prim.Native.Nat.{ℕ, ◌-◌, ◌≤◌, ◌<◌}
-use mathlib.Core.Bool.{false}
-use mathlib.Core.Path.{◌≡◌}
+use Rattle.std.proofs.Common.{ℕ, ◌<◌, ◌≤◌, false}
+use Rattle.map_records.specs.Map.{region}
 use Rattle.map_records.specs.Words.{map_of}
 use Rattle.map_check.proofs.search.first_pair.Given as goal
 
+-- no pair that was asked for clashes
+abbrev pub invariant-loop-i : goal.invariant-loop-i
+invariant-loop-i g l =
+    (l.i ≤ l.count)
+    × ((a : ℕ) → a < l.i → (b : ℕ) → b < l.count → a < b → goal.F-post g l.clashes (region (map_of l.map) a) (region (map_of l.map) b) false)
+
 abbrev pub invariant-loop-j : goal.invariant-loop-j
-invariant-loop-j l = (l.found ≡ Nothing) × (l.i < l.j) × (l.j ≤ l.count) × ((b : ℕ) → b < l.j → l.i < b → clash l.rule (map_of l.map) l.i b ≡ false)
-
-abbrev pub decreases-loop-j : goal.decreases-loop-j
-decreases-loop-j l = l.count - l.j
-
-abbrev pub invariant-search : goal.invariant-search
-invariant-search l = (l.found ≡ Nothing) × (l.i ≤ l.count) × ((a : ℕ) → a < l.i → (b : ℕ) → b < l.count → a < b → clash l.rule (map_of l.map) a b ≡ false)
-
-abbrev pub decreases-search : goal.decreases-search
-decreases-search l = l.count - l.i
+invariant-loop-j g l =
+    (l.i < l.j) × (l.j ≤ l.count) × ((b : ℕ) → b < l.j → l.i < b → goal.F-post g l.clashes l.region (region (map_of l.map) b) false)

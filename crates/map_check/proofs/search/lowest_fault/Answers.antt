@@ -1,25 +1,15 @@
 -- `map_check::search::lowest_fault` meets its contract. Assumes nothing.
-use Rattle.map_check.proofs.First.{lowest_none, lowest_at}
-use borrow.Author.Count.{below_none, below_more}
-use native.Mathlib.Omega.{arith}
-use mathlib.Core.Path.{sym, ◌∙◌}
+use mathlib.Core.Bool.{true, false}
 use borrow.Author.Rules.{rules}
+use Rattle.std.proofs.lemmas.Iterator.{first_from_Range, serves_from_Range}
+use Rattle.map_check.proofs.Found.{lowest_is}
 use Rattle.map_check.proofs.search.lowest_fault.Goals as goal
 
-pub region_count-count-requires : goal.region_count-count-requires
-region_count-count-requires c = c.requires.words
-
-pub loop-n-init : goal.loop-n-init
-loop-n-init c = (search rules, below_none _)
-
-pub at_fault-requires : goal.at_fault-requires
-at_fault-requires c = (c.requires, omega (arith, c.loop-n-test.true, c.region_count-count.ensures))
-
-pub returns-then-at_fault : goal.returns-then-at_fault
-returns-then-at_fault c = λ k. lowest_at _ k _ _ (omega (arith, c.loop-n-test.true, c.region_count-count.ensures)) c.loop-n.invariant.1 (sym c.at_fault.ensures ∙ c.if-at_fault.true)
-
-pub loop-n-preserved : goal.loop-n-preserved
-loop-n-preserved c = (search rules, below_more _ _ c.loop-n.invariant.1 (sym c.at_fault.ensures ∙ c.if-at_fault.false))
+pub find-requires-clause-callable : goal.find-requires-clause-callable
+find-requires-clause-callable g c = serves_from_Range (λ x q k. search rules) (λ x low high. search rules)
 
 pub returns : goal.returns
-returns c = λ k. lowest_none _ k _ (λ i p. c.loop-n.invariant.1 i (omega (arith, p, c.loop-n-test.false, c.region_count-count.ensures)))
+returns g c = λ rule tests.
+    lowest_is rule _ _
+    (first_from_Range _ _ _ _ (λ i. goal.F-post g c.args.at_fault i true) (λ i. goal.F-post g c.args.at_fault i false) c.find.ensures.ran
+    (λ x q k. search rules) (λ x q k. (search rules, search rules))) tests

@@ -2,18 +2,20 @@
 -- was looked at has a higher one below it. The measure is what is left of the nodes below n. Assumes nothing.
 use mathlib.Core.Path.{◌≡◌, refl, subst, sym, ap, ◌∙◌}
 use mathlib.Core.Bool.{Bool, true, false}
-use mathlib.Core.Logic.{◌⊎◌, inl, inr}
-use Prim.Native.Nat.{ℕ, ◌+◌, ◌%◌, ◌≤◌, ◌<◌}
+use mathlib.Core.Logic.{◌⊎◌, inl, inr, ⊎_elim}
+use Prim.Native.Nat.{ℕ, zero, suc, ◌+◌, ◌-◌, ◌%◌, ◌≤◌, ◌<◌}
 use native.Mathlib.Omega.{arith}
 use Rattle.map_records.specs.declared.map.Region.{Region}
 use Rattle.map_records.specs.declared.map.RegionMap.{RegionMap}
 use Rattle.map_records.specs.Map.{region}
 use Rattle.map_check.specs.Clash.{priority_of}
+use Rattle.std.specs.Prelude.{Option, Some, None, SomeIff}
+use Rattle.region_map.specs.Promises.{past}
 use Rattle.region_map.specs.Walk.{rank, ranked}
 use Rattle.map_records.specs.Words.{map_of}
 use Rattle.region_map.proofs.WalkLaws.{looked, is_ranked, child_below}
 use Rattle.region_map.proofs.children.next_child.Invariants.{Looked}
-use Rattle.region_map.proofs.children.next_child.Goals.{then-region-n+then-r-below+then-best-r, then-region-n+then-r-below+else-best-r, then-region-n+else-r-below, else-region-n}
+use Rattle.region_map.proofs.children.next_child.Goals.{then-region_at-n+then-r-below+then-best-r, then-region_at-n+else-r-below, else-region_at-n}
 use Rattle.region_map.proofs.children.next_child.Goals as goal
 
 kept : (m : RegionMap) (n below best best' c : ℕ) → Looked m n below best c → c < n → best' ≡ best → ((region m c).parent ≡ n + 1 → (rank priority_of m c < best) ⊎ (below ≤ rank priority_of m c)) → Looked m n below best' (c + 1)
@@ -27,6 +29,12 @@ found m n below best best' c l h w e p lt le = (
   looked m n best' below c (λ k a b d. l.3 k (omega arith) b d) (λ _. inl (omega arith)),
 )
 
+-- one less, where there is one
+past_is : (best : ℕ) (r : Option ℕ) → SomeIff r (1 ≤ best) (best - 1) → past r ≡ best
+past_is zero None h = refl
+past_is (suc best) None h = absurd (h (omega arith))
+past_is best (Some k) h = omega arith
+
 only : (x : Bool) → (x ≡ true → x ≡ false) → x ≡ false
 only true f = f refl
 only false f = refl
@@ -34,8 +42,8 @@ only false f = refl
 pub loop-c-init : goal.loop-c-init
 loop-c-init c = (omega arith, omega arith, λ k e. absurd (omega arith), λ k a b d. absurd (omega arith))
 
-pub region_at-region-requires : goal.region_at-region-requires
-region_at-region-requires c =
+pub region_at-requires : goal.region_at-requires
+region_at-requires c =
     (c.requires.0.tree.words, omega (arith, c.loop-c-test.true, c.requires.0.below, c.requires.0.tree.walkable.count))
 
 pub overflow_add-n : goal.overflow_add-n
@@ -63,14 +71,13 @@ loop-c-preserved c =
     let m = map_of a.map.now in
     let l = c.loop-c in
     let lt = c.loop-c-test.true in
-    let parent = ap (λ (r : Region). r.parent) c.region_at-region.ensures in
-    let go_on : (c.if-region-n.best ≡ l.best) → ((region m l.c).parent ≡ a.n + 1 → (rank priority_of m l.c < l.best) ⊎ (a.below ≤ rank priority_of m l.c)) → Looked m a.n a.below c.if-region-n.best (l.c + 1)
-    = kept m a.n a.below l.best c.if-region-n.best l.c l.invariant lt in
-    elim c.if-region-n.branch [
-      | then-region-n+then-r-below+then-best-r w ↦ found m a.n a.below l.best c.if-region-n.best l.c l.invariant lt (omega (arith, lt, c.requires.0.below, c.requires.0.tree.walkable.count)) (omega arith) (sym parent ∙ w.if-region-n.true) (omega arith) (omega arith)
-      | then-region-n+then-r-below+else-best-r w ↦ go_on w.best-is (λ _. inl (omega arith))
-      | then-region-n+else-r-below w ↦ go_on w.best-is (λ _. inr (omega arith))
-      | else-region-n w ↦ go_on w.best-is (λ p. absurd (w.if-region-n.false (parent ∙ p)))
+    let parent = ap (λ (r : Region). r.parent) c.region_at.ensures in
+    let go_on : (c.if-region_at-n.best ≡ l.best) → ((region m l.c).parent ≡ a.n + 1 → (rank priority_of m l.c < l.best) ⊎ (a.below ≤ rank priority_of m l.c)) → Looked m a.n a.below c.if-region_at-n.best (l.c + 1)
+    = kept m a.n a.below l.best c.if-region_at-n.best l.c l.invariant lt in
+    elim c.if-region_at-n.branch [
+      | then-region_at-n+then-r-below+then-best-r w ↦ found m a.n a.below l.best c.if-region_at-n.best l.c l.invariant lt (omega (arith, lt, c.requires.0.below, c.requires.0.tree.walkable.count)) (omega arith) (sym parent ∙ w.if-region_at-n.true) (omega arith) (omega arith)
+      | then-region_at-n+else-r-below w ↦ go_on w.best-is (λ _. ⊎_elim (λ p. inl (omega arith)) (λ q. inr (omega arith)) w.else-r-below.either)
+      | else-region_at-n w ↦ go_on w.best-is (λ p. absurd (w.if-region_at-n.false (parent ∙ p)))
     ]
 
 pub returns : goal.returns
@@ -78,9 +85,10 @@ returns c =
     let l = c.loop-c in
     let a = c.args in
     let m = map_of a.map.now in
+    let e = past_is l.best c.checked_sub.result c.checked_sub.ensures in
     record {
-      within = l.invariant.1;
-      found = l.invariant.2;
+      within = omega (arith, e, l.invariant.1);
+      found = λ k q. l.invariant.2 k (omega (arith, e, ap past q));
       above = λ k x y. only (ranked priority_of m a.n k)
-          (λ e. l.invariant.3 k x y (let h : k % 32 < a.n = child_below m _ k e in omega (arith, h, c.loop-c-test.false)));
+          (λ t. l.invariant.3 k (omega (arith, e, x)) y (let h : k % 32 < a.n = child_below m _ k t in omega (arith, h, c.loop-c-test.false)));
     }

@@ -2,6 +2,7 @@
 use mathlib.Core.Path.{◌≡◌, sym, subst, ap, ◌∙◌}
 use mathlib.Core.Bool.{false}
 use mathlib.Core.List.{List}
+use Rattle.std.specs.Prelude.{Ok}
 use Prim.Native.Nat.{ℕ, ◌+◌, ◌-◌, ◌*◌, ◌≤◌, ◌<◌}
 use native.Mathlib.Omega.{arith}
 use lib.ListN.{length, set}
@@ -31,7 +32,7 @@ put_range-requires c = (c.requires.0.words, omega (arith, c.if-n-gt0.true, c.cou
 pub returns-then-goes_on : goal.returns-then-goes_on
 returns-then-goes_on c =
     let n = c.count_of-n in
-    subst (λ (x : List ℕ). Grows (push (entries (view_of c.args.view.now)) c.args.r) c.args.view.now false x) (sym c.put_range.ensures)
+    subst (λ (x : List ℕ). Grows (push (entries (view_of c.args.view.now)) c.args.r) c.args.view.now (Ok tt) x) (sym c.put_range.ensures)
     (grew_words c.args.view.now c.args.r c.requires.0 (n.result - 1) (omega (arith, n.ensures, c.if-n-gt0.true)) (omega (arith, n.ensures)) c.range_at-x.result c.range_at-x.ensures (sym c.goes_on.ensures ∙ c.if-goes_on.true))
 
 pub returns-then-n-eq-RANGES : goal.returns-then-n-eq-RANGES
@@ -43,7 +44,7 @@ returns-then-n-eq-RANGES c =
       | then-n-gt0+else-goes_on w ↦ λ p. subst (λ (x : FlatRange). joins x c.args.r ≡ false) (w.range_at-x.ensures ∙ ap (range_of v) k) (sym w.goes_on.ensures ∙ w.if-goes_on.false)
       | else-n-gt0 w ↦ λ p. absurd (omega (arith, w.if-n-gt0.false, n))
     ] in
-    refused_words c.args.view.now c.args.r c.requires.0 behind (sym c.count_of-n.ensures ∙ c.if-n-eq-RANGES.true)
+    refused_words c.args.view.now c.args.r c.requires.0 behind _ (sym c.count_of-n.ensures ∙ c.if-n-eq-RANGES.true)
 
 pub put_range-requires-2 : goal.put_range-requires-2
 put_range-requires-2 c = (c.requires.0.words, omega (arith, c.if-n-eq-RANGES.false, c.count_of-n.ensures, c.requires.0.few))
@@ -60,6 +61,6 @@ returns c =
       | then-n-gt0+else-goes_on w ↦ λ p. subst (λ (x : FlatRange). joins x c.args.r ≡ false) (w.range_at-x.ensures ∙ ap (range_of v) k) (sym w.goes_on.ensures ∙ w.if-goes_on.false)
       | else-n-gt0 w ↦ λ p. absurd (omega (arith, w.if-n-gt0.false, n))
     ] in
-    subst (λ (x : List ℕ). Grows (push (entries v) c.args.r) c.args.view.now false x)
+    subst (λ (x : List ℕ). Grows (push (entries v) c.args.r) c.args.view.now (Ok tt) x)
     (sym (c.put_count.ensures ∙ ap (λ (x : List ℕ). set x 0 (c.count_of-n.result + 1)) c.put_range-2.ensures))
     (added_words c.args.view.now c.args.r c.requires.0 behind c.count_of-n.result n (omega (arith, c.if-n-eq-RANGES.false, n, c.requires.0.few)))

@@ -1,6 +1,6 @@
 -- `region_map::flat::sweep` meets its contract. Assumes nothing.
-use mathlib.Core.Path.{◌≡◌, refl, sym, ap, subst, ◌∙◌}
-use mathlib.Core.Bool.{Bool}
+use mathlib.Core.Path.{◌≡◌, refl, sym, ap, ◌∙◌}
+use Rattle.std.proofs.lemmas.Result.{err_from_is_err_and}
 use Prim.Native.Nat.{ℕ, ◌-◌}
 use native.Mathlib.Omega.{arith}
 use Rattle.map_records.specs.Map.{region}
@@ -9,7 +9,6 @@ use Rattle.map_records.specs.declared.map.Region.{Region}
 use Rattle.region_map.specs.Walk.{walk_root}
 use Rattle.region_map.specs.FlatList.{flat}
 use Rattle.region_map.specs.Flatten.{backing_of, root_size, flat_list}
-use Rattle.region_map.specs.Promises.{Grows}
 use Rattle.region_map.proofs.RenderLaws.{whole_from}
 use Rattle.region_map.proofs.ViewLaws.{start, still_full, kept}
 use Rattle.region_map.proofs.flat.sweep.Goals as goal
@@ -18,7 +17,7 @@ pub loop-at-init : goal.loop-at-init
 loop-at-init c =
     let m = map_of c.args.map.now in
     let h = start (backing_of m) (walk_root m) (view_of c.args.view.now) c.requires.view_len.1 in
-    (omega arith, record { words = c.requires.view_len.0; few = h.0 }, h.1, λ b. b, refl)
+    (omega arith, record { words = c.requires.view_len.0; few = h.0 }, h.1, λ b. b)
 
 pub emit-requires : goal.emit-requires
 emit-requires c =
@@ -35,16 +34,16 @@ emit-requires c =
       whole = whole_from m _ root _ _ _ _ _ b.none b.first b.horizon c.root_offset-offset.ensures r;
     }
 
-pub returns-then-emit : goal.returns-then-emit
+pub returns-in_err-emit : goal.returns-in_err-emit
 unfolding flat_list
-returns-then-emit c =
+returns-in_err-emit c =
     let m = map_of c.args.map.now in
-    let e = c.emit.ensures in
+    let e = c.in_err-emit.ensures in
     let root : c.region_count-root.result - 1 ≡ m.count - 1 = omega (arith, c.region_count-root.ensures) in
     let end : c.root_end-end.result.0 ≡ root_size m = c.root_end-end.ensures ∙ ap (λ (r : Region). r.size) c.region_at-region.ensures ∙ ap (λ (n : ℕ). (region m n).size) root in
-    subst (λ (b : Bool). Grows (flat_list m) c.args.view.now b c.emit.new.view) c.if-emit.true
-    (record {
-      grew = still_full _ _ _ _ _ (omega (arith, c.render.ensures.within, c.begin.ensures.horizon, end)) c.if-emit.true e.grew;
+    let r = err_from_is_err_and c.from_residual.result c.from_residual.ensures.1 in
+    rw r.1 (record {
+      grew = still_full _ _ _ _ _ (omega (arith, c.render.ensures.within, c.begin.ensures.horizon, end)) refl e.grew;
       blank = λ b. e.blank (c.loop-at.invariant.3 b);
       words = e.words;
     })

@@ -1,6 +1,8 @@
 -- `region_map::render::render` and `render_children` meet their contracts, as one cycle of calls: the measure is the region number and the children left. Assumes nothing.
 use native.Mathlib.Omega.{arith}
-use Prim.Native.Nat.{◌-◌}
+use mathlib.Core.Path.{sym, ap, ◌∙◌}
+use Rattle.map_records.specs.declared.map.GuestAddress.{GuestAddress}
+use borrow.Author.Tests.{eqb-true, eqb-false}
 use Rattle.region_map.specs.Walk.{walk}
 use Rattle.region_map.specs.Promises.{answer_in}
 use Rattle.region_map.specs.Pieces.{in_span, Behind}
@@ -16,48 +18,48 @@ render-returns-then-at-first t c =
     let x = c.region_at-region in
     nothing_there (map_of a.map.now) a.n x.result x.ensures _ a.at.first.0 a.at.offset.0 a.at.end.0 c.requires.span_fits.kept c.if-at-first.true
 
-pub render-returns-then-whole-first : goal.render-returns-then-whole-first
-render-returns-then-whole-first t c =
+pub render-returns-then-horizon-first : goal.render-returns-then-horizon-first
+render-returns-then-horizon-first t c =
     let a = c.args in
-    not_reached (walk (map_of a.map.now) a.n) _ a.at.first.0 a.at.offset.0 a.at.end.0 c.requires.span_fits.kept (omega (arith, c.horizon-whole.ensures, c.if-whole-first.true))
+    not_reached (walk (map_of a.map.now) a.n) _ a.at.first.0 a.at.offset.0 a.at.end.0 c.requires.span_fits.kept (omega (arith, ap (λ (a : GuestAddress). a.0) c.horizon.ensures, c.if-horizon-first.true))
 
-pub render-returns-then-region-eq-ALIAS : goal.render-returns-then-region-eq-ALIAS
-render-returns-then-region-eq-ALIAS t c =
+pub render-returns-then-has_kind : goal.render-returns-then-has_kind
+render-returns-then-has_kind t c =
     let a = c.args in
     let x = c.region_at-region in
-    let l = c.least in
+    let l = c.min in
     let h = some_there x.result.size a.at.first.0 a.at.offset.0 a.at.end.0 c.if-at-first.false in
     through_alias (map_of a.map.now) a.n x.result x.ensures a.at.first.0 a.at.offset.0 a.at.end.0 l.result l.ensures h.0 h.1
-    c.requires.in_tree.tree.walkable c.requires.in_tree.below c.if-region-eq-ALIAS.true c.render.ensures
+    c.requires.in_tree.tree.walkable c.requires.in_tree.below (eqb-true _ _ (sym c.has_kind.ensures ∙ c.if-has_kind.true)) c.render.ensures
 
-pub render-returns-else-region-eq-ALIAS : goal.render-returns-else-region-eq-ALIAS
-render-returns-else-region-eq-ALIAS t c =
+pub render-returns-else-has_kind : goal.render-returns-else-has_kind
+render-returns-else-has_kind t c =
     let a = c.args in
     let x = c.region_at-region in
-    let l = c.least in
+    let l = c.min in
     let h = some_there x.result.size a.at.first.0 a.at.offset.0 a.at.end.0 c.if-at-first.false in
     through_children (map_of a.map.now) a.n x.result x.ensures a.at.first.0 a.at.offset.0 a.at.end.0 l.result l.ensures h.0 h.1
-    c.if-region-eq-ALIAS.false c.render_children.ensures
+    (eqb-false _ _ (sym c.has_kind.ensures ∙ c.if-has_kind.false)) c.render_children.ensures
 
-pub render_children-returns-then-region-ne-CONTAINER :
-    goal.render_children-returns-then-region-ne-CONTAINER
-render_children-returns-then-region-ne-CONTAINER t c =
+pub render_children-returns-then-not-has_kind :
+    goal.render_children-returns-then-not-has_kind
+render_children-returns-then-not-has_kind t c =
     let a = c.args in
-    let x = c.region_at-region in
-    the_node (map_of a.map.now) a.n a.below _ a.at.first.0 a.at.offset.0 a.at.end.0 c.next_child-next.ensures x.result x.ensures c.if-next-eq0.true c.if-region-ne-CONTAINER.true c.fill.ensures
+    let x = c.region_at in
+    the_node (map_of a.map.now) a.n a.below a.at.first.0 a.at.offset.0 a.at.end.0 c.in_default.ensures x.result x.ensures (eqb-false _ _ (sym c.has_kind.ensures ∙ c.if-not-has_kind.true)) c.fill.ensures
 
-pub render_children-returns-else-region-ne-CONTAINER :
-    goal.render_children-returns-else-region-ne-CONTAINER
-render_children-returns-else-region-ne-CONTAINER t c =
+pub render_children-returns-else-not-has_kind :
+    goal.render_children-returns-else-not-has_kind
+render_children-returns-else-not-has_kind t c =
     let a = c.args in
-    let x = c.region_at-region in
-    no_node (map_of a.map.now) a.n a.below _ a.at.first.0 a.at.offset.0 a.at.end.0 c.next_child-next.ensures _ x.result x.ensures c.requires.span_fits.0.kept c.if-next-eq0.true c.if-region-ne-CONTAINER.false
+    let x = c.region_at in
+    no_node (map_of a.map.now) a.n a.below a.at.first.0 a.at.offset.0 a.at.end.0 c.in_default.ensures _ x.result x.ensures c.requires.span_fits.0.kept (eqb-true _ _ (sym c.has_kind.ensures ∙ c.if-not-has_kind.false))
 
 pub render_children-render-requires : goal.render_children-render-requires
 render_children-render-requires t c =
     let a = c.args in
     let m = map_of a.map.now in
-    let low = child_below m a.n _ (is_child m a.n a.below _ c.next_child-next.ensures c.if-next-eq0.false) in
+    let low = child_below m a.n _ (is_child c.in-Some.ensures) in
     let w = c.requires.span_fits.0 in
     (omega (arith, low, c.decreases), (record { tree = c.requires.in_tree.0.tree; below = omega (arith, low, c.requires.in_tree.0.below) }, record { kept = w.kept; from = w.from; to = w.to; offset = omega (arith, w.offset) }))
 
@@ -66,7 +68,7 @@ pub render_children-render-requires-then-ahead-end :
 render_children-render-requires-then-ahead-end t c =
     let a = c.args in
     let m = map_of a.map.now in
-    let low = child_below m a.n _ (is_child m a.n a.below _ c.next_child-next.ensures c.if-next-eq0.false) in
+    let low = child_below m a.n _ (is_child c.in-Some.ensures) in
     let w = c.requires.span_fits.0 in
     (omega (arith, low, c.decreases), (record { tree = c.requires.in_tree.0.tree; below = omega (arith, low, c.requires.in_tree.0.below) }, record { kept = w.kept; from = omega (arith, w.from); to = w.to; offset = omega arith }))
 
@@ -75,26 +77,26 @@ render_children-render_children-requires t c =
     let a = c.args in
     let m = map_of a.map.now in
     let x = c.region_at-child in
-    let next = c.next_child-next.ensures in
-    let k = is_child m a.n a.below _ next c.if-next-eq0.false in
+    let next = c.in-Some.ensures in
+    let k = is_child next in
     -- after the next child, whichever way: what it answers stands behind the table
-    let b : Behind a.table.now (in_span (answer_in m a.n (c.next_child-next.result - 1)) a.at.first.0 a.at.offset.0 a.at.end.0) c.if-begins-at.table = elim c.if-begins-at.branch [
+    let b : Behind a.table.now (in_span (answer_in m a.n c.in-Some.next) a.at.first.0 a.at.offset.0 a.at.end.0) c.if-begins-at.table = elim c.if-begins-at.branch [
       | render_children-then-begins-at w ↦ behind_at w.table-is (child_begun m a.n _ x.result x.ensures a.at.first.0 a.at.offset.0 a.at.end.0 k w.if-begins-at.true w.render.ensures)
       | render_children-else-begins-at+then-ahead-end w ↦ behind_at w.table-is (child_ahead m a.n _ x.result x.ensures a.at.first.0 a.at.offset.0 a.at.end.0 k w.if-begins-at.false w.render-then-ahead-end.ensures)
       | render_children-else-begins-at+else-ahead-end w ↦ behind_at w.table-is (child_beyond m a.n _ x.result x.ensures a.at.first.0 a.at.offset.0 a.at.end.0 k _ c.requires.span_fits.0.kept w.if-begins-at.false w.if-ahead-end.false)
     ] in
     let w = c.requires.span_fits in
-    (omega (arith, c.decreases, next.within, c.if-next-eq0.false), ((c.requires.in_tree.0, omega (arith, next.within, c.requires.in_tree.1)), (record { kept = b.kept; from = omega (arith, b.start, w.0.from); to = w.0.to; offset = w.0.offset }, w.1, w.2)))
+    (omega (arith, c.decreases, next.within), ((c.requires.in_tree.0, omega (arith, next.within, c.requires.in_tree.1)), (record { kept = b.kept; from = omega (arith, b.start, w.0.from); to = w.0.to; offset = w.0.offset }, w.1, w.2)))
 
 pub render_children-returns : goal.render_children-returns
 render_children-returns t c =
     let a = c.args in
     let m = map_of a.map.now in
     let x = c.region_at-child in
-    let k = is_child m a.n a.below _ c.next_child-next.ensures c.if-next-eq0.false in
-    let b : Behind a.table.now (in_span (answer_in m a.n (c.next_child-next.result - 1)) a.at.first.0 a.at.offset.0 a.at.end.0) c.if-begins-at.table = elim c.if-begins-at.branch [
+    let k = is_child c.in-Some.ensures in
+    let b : Behind a.table.now (in_span (answer_in m a.n c.in-Some.next) a.at.first.0 a.at.offset.0 a.at.end.0) c.if-begins-at.table = elim c.if-begins-at.branch [
       | render_children-then-begins-at w ↦ behind_at w.table-is (child_begun m a.n _ x.result x.ensures a.at.first.0 a.at.offset.0 a.at.end.0 k w.if-begins-at.true w.render.ensures)
       | render_children-else-begins-at+then-ahead-end w ↦ behind_at w.table-is (child_ahead m a.n _ x.result x.ensures a.at.first.0 a.at.offset.0 a.at.end.0 k w.if-begins-at.false w.render-then-ahead-end.ensures)
       | render_children-else-begins-at+else-ahead-end w ↦ behind_at w.table-is (child_beyond m a.n _ x.result x.ensures a.at.first.0 a.at.offset.0 a.at.end.0 k _ c.requires.span_fits.0.kept w.if-begins-at.false w.if-ahead-end.false)
     ] in
-    child_then m a.n a.below _ a.at.first.0 a.at.offset.0 a.at.end.0 c.next_child-next.ensures c.if-next-eq0.false b c.render_children.ensures
+    child_then m a.n a.below a.at.first.0 a.at.offset.0 a.at.end.0 _ c.in-Some.ensures b c.render_children.ensures

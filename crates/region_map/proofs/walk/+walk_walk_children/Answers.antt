@@ -1,6 +1,7 @@
 -- `region_map::walk::walk` and `walk_children` meet their contracts, as one cycle of calls: the measure is the region number and the children left. Assumes nothing.
 use mathlib.Core.Path.{◌≡◌, sym, ap, ◌∙◌}
 use native.Mathlib.Omega.{arith}
+use borrow.Author.Tests.{eqb-true, eqb-false}
 use Rattle.map_records.specs.declared.map.Region.{Region}
 use Rattle.region_map.specs.Walk.{or_else, walk as walk_of}
 use Rattle.region_map.specs.Promises.{tried_in}
@@ -15,14 +16,14 @@ walk-returns-then-region-a t c =
     let size = ap (λ (r : Region). r.size) c.region_at-region.ensures in
     sym (past (map_of a.map.now) a.n a.at.0 (omega (arith, size, c.if-region-a.true)))
 
-pub walk-returns-then-region-eq-ALIAS : goal.walk-returns-then-region-eq-ALIAS
-walk-returns-then-region-eq-ALIAS t c =
+pub walk-returns-then-has_kind : goal.walk-returns-then-has_kind
+walk-returns-then-has_kind t c =
     let a = c.args in
     let m = map_of a.map.now in
     let e = c.region_at-region.ensures in
     let kind = ap (λ (r : Region). r.kind) e in
     let size = ap (λ (r : Region). r.size) e in
-    c.walk.ensures ∙ ap (λ (r : Region). walk_of m r.target (a.at.0 + r.alias_offset)) e ∙ sym (walk_alias m c.requires.tree.walkable a.n c.requires.below (sym kind ∙ c.if-region-eq-ALIAS.true) a.at.0 (omega (arith, size, c.if-region-a.false)))
+    c.walk.ensures ∙ ap (λ (r : Region). walk_of m r.target (a.at.0 + r.alias_offset)) e ∙ sym (walk_alias m c.requires.tree.walkable a.n c.requires.below (sym kind ∙ eqb-true _ _ (sym c.has_kind.ensures ∙ c.if-has_kind.true)) a.at.0 (omega (arith, size, c.if-region-a.false)))
 
 pub walk-returns : goal.walk-returns
 walk-returns t c =
@@ -31,65 +32,62 @@ walk-returns t c =
     let e = c.region_at-region.ensures in
     let kind = ap (λ (r : Region). r.kind) e in
     let size = ap (λ (r : Region). r.size) e in
-    rw (walk_inside m a.n (λ k. c.if-region-eq-ALIAS.false (kind ∙ k)) a.at.0 (omega (arith, size, c.if-region-a.false))) c.walk_children.ensures
+    rw (walk_inside m a.n (λ k. eqb-false _ _ (sym c.has_kind.ensures ∙ c.if-has_kind.false) (kind ∙ k)) a.at.0 (omega (arith, size, c.if-region-a.false))) c.walk_children.ensures
 
-pub walk_children-returns-then-region-eq-CONTAINER :
-    goal.walk_children-returns-then-region-eq-CONTAINER
-walk_children-returns-then-region-eq-CONTAINER t c =
+pub walk_children-returns-then-has_kind :
+    goal.walk_children-returns-then-has_kind
+walk_children-returns-then-has_kind t c =
     let a = c.args in
     let m = map_of a.map.now in
-    let kind = ap (λ (r : Region). r.kind) c.region_at-region.ensures in
-    sym (tried_none m _ a.n a.below _ c.next_child-next.ensures c.if-next-eq0.true a.at.0 ∙ own_none m a.n (sym kind ∙ c.if-region-eq-CONTAINER.true) a.at.0)
+    let kind = ap (λ (r : Region). r.kind) c.region_at.ensures in
+    sym (tried_none m _ a.n a.below c.in_default.ensures a.at.0 ∙ own_none m a.n (sym kind ∙ eqb-true _ _ (sym c.has_kind.ensures ∙ c.if-has_kind.true)) a.at.0)
 
-pub walk_children-returns-then-next-eq0 : goal.walk_children-returns-then-next-eq0
-walk_children-returns-then-next-eq0 t c =
+pub walk_children-returns-in_default : goal.walk_children-returns-in_default
+walk_children-returns-in_default t c =
     let a = c.args in
     let m = map_of a.map.now in
-    let kind = ap (λ (r : Region). r.kind) c.region_at-region.ensures in
-    sym (tried_none m _ a.n a.below _ c.next_child-next.ensures c.if-next-eq0.true a.at.0 ∙ own_is m a.n (λ k. c.if-region-eq-CONTAINER.false (kind ∙ k)) a.at.0)
+    let kind = ap (λ (r : Region). r.kind) c.region_at.ensures in
+    sym (tried_none m _ a.n a.below c.in_default.ensures a.at.0 ∙ own_is m a.n (λ k. eqb-false _ _ (sym c.has_kind.ensures ∙ c.if-has_kind.false) (kind ∙ k)) a.at.0)
 
 pub walk_children-returns-then-a-child : goal.walk_children-returns-then-a-child
 walk_children-returns-then-a-child t c =
     let a = c.args in
     let m = map_of a.map.now in
-    let nc = c.next_child-next.ensures in
-    let left = c.if-next-eq0.false in
+    let nc = c.in-Some.ensures in
     let offset = ap (λ (r : Region). r.offset) c.region_at-child.ensures in
-    let k = is_child m a.n a.below _ nc left in
-    rw (tried_next m _ a.n a.below _ nc left a.at.0, child_before m a.n _ k a.at.0 (omega (arith, offset, c.if-a-child.true))) c.walk_children.ensures
+    let k = is_child nc in
+    rw (tried_next m _ a.n a.below _ nc a.at.0, child_before m a.n _ k a.at.0 (omega (arith, offset, c.if-a-child.true))) c.walk_children.ensures
 
 pub walk_children-walk-answer-requires : goal.walk_children-walk-answer-requires
 walk_children-walk-answer-requires t c =
     let a = c.args in
     let m = map_of a.map.now in
-    let k = child_below m a.n _ (is_child m a.n a.below _ c.next_child-next.ensures c.if-next-eq0.false) in
+    let k = child_below m a.n _ (is_child c.in-Some.ensures) in
     (omega (arith, k, c.decreases), record { tree = c.requires.0.tree; below = omega (arith, k, c.requires.0.below) })
 
-pub walk_children-returns-in-At : goal.walk_children-returns-in-At
-walk_children-returns-in-At t c =
+pub walk_children-returns-in-Some-answer : goal.walk_children-returns-in-Some-answer
+walk_children-returns-in-Some-answer t c =
     let a = c.args in
     let m = map_of a.map.now in
-    let nc = c.next_child-next.ensures in
-    let left = c.if-next-eq0.false in
+    let nc = c.in-Some.ensures in
     let child = c.region_at-child.ensures in
     let offset = ap (λ (r : Region). r.offset) child in
-    let k = is_child m a.n a.below _ nc left in
-    let walked = c.walk-answer.ensures ∙ ap (λ (r : Region). walk_of m ((c.next_child-next.result - 1) % 32) (a.at.0 - r.offset)) child in
+    let k = is_child nc in
+    let walked = c.walk-answer.ensures ∙ ap (λ (r : Region). walk_of m (c.in-Some.next % 32) (a.at.0 - r.offset)) child in
     -- the next child was walked: its answer comes before those of the others
-    let reached : tried_in m a.n a.below a.at.0 ≡ or_else c.walk-answer.result (tried_in m a.n (c.next_child-next.result - 1) a.at.0) =
-    rw (tried_next m _ a.n a.below _ nc left a.at.0, child_at m a.n _ k a.at.0 (omega (arith, offset, c.if-a-child.false)), ← walked) in
-    rw (reached, c.in-At.is)
+    let reached : tried_in m a.n a.below a.at.0 ≡ or_else c.walk-answer.result (tried_in m a.n c.in-Some.next a.at.0) =
+    rw (tried_next m _ a.n a.below _ nc a.at.0, child_at m a.n _ k a.at.0 (omega (arith, offset, c.if-a-child.false)), ← walked) in
+    rw (reached, c.in-Some-answer.is)
 
-pub walk_children-returns-in-Nothing : goal.walk_children-returns-in-Nothing
-walk_children-returns-in-Nothing t c =
+pub walk_children-returns-in-None : goal.walk_children-returns-in-None
+walk_children-returns-in-None t c =
     let a = c.args in
     let m = map_of a.map.now in
-    let nc = c.next_child-next.ensures in
-    let left = c.if-next-eq0.false in
+    let nc = c.in-Some.ensures in
     let child = c.region_at-child.ensures in
     let offset = ap (λ (r : Region). r.offset) child in
-    let k = is_child m a.n a.below _ nc left in
-    let walked = c.walk-answer.ensures ∙ ap (λ (r : Region). walk_of m ((c.next_child-next.result - 1) % 32) (a.at.0 - r.offset)) child in
-    let reached : tried_in m a.n a.below a.at.0 ≡ or_else c.walk-answer.result (tried_in m a.n (c.next_child-next.result - 1) a.at.0) =
-    rw (tried_next m _ a.n a.below _ nc left a.at.0, child_at m a.n _ k a.at.0 (omega (arith, offset, c.if-a-child.false)), ← walked) in
-    rw (reached, c.in-Nothing.is) c.walk_children-in-Nothing.ensures
+    let k = is_child nc in
+    let walked = c.walk-answer.ensures ∙ ap (λ (r : Region). walk_of m (c.in-Some.next % 32) (a.at.0 - r.offset)) child in
+    let reached : tried_in m a.n a.below a.at.0 ≡ or_else c.walk-answer.result (tried_in m a.n c.in-Some.next a.at.0) =
+    rw (tried_next m _ a.n a.below _ nc a.at.0, child_at m a.n _ k a.at.0 (omega (arith, offset, c.if-a-child.false)), ← walked) in
+    rw (reached, c.in-None.is) c.walk_children-in-None.ensures

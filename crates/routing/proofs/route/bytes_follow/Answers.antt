@@ -31,12 +31,6 @@ overflow_add-b c =
     let e = c.range_at-range.ensures in
     omega (arith, c.loop-i-test.true, c.requires.at_bound.2, read_high c.requires.judged c.requires.spot c.requires.at_bound.0 e, read_last c.requires.judged c.requires.spot c.requires.at_bound.0 e)
 
-pub near-here-requires : goal.near-here-requires
-near-here-requires c = c.requires.judged
-
-pub count_of-requires : goal.count_of-requires
-count_of-requires c = c.requires.judged.words
-
 pub returns-then-count_of-here : goal.returns-then-count_of-here
 returns-then-count_of-here c =
     let v = view_of c.args.view.now in
@@ -60,12 +54,6 @@ overflow_add-offset c =
 pub returns-then-not-other-range : goal.returns-then-not-other-range
 returns-then-not-other-range c =
     sym (all_not (goes_on (view_of c.args.view.now) c.args.a.0) c.args.w c.loop-i.i c.loop-i-test.true ((let it : (let i = c.loop-i.i in goes_on (view_of c.args.view.now) c.args.a.0 i ≡ (eqb c.range_at-other.result.region c.range_at-range.result.region && eqb c.offset_in-there.result.0 (c.offset_in-offset.result.0 + i))) = let x = c.range_at-range in let y = c.range_at-other in let i = c.loop-i.i in let near = c.near-here in read_byte c.requires.judged c.requires.spot c.requires.at_bound.0 x.ensures i near.result near.ensures ((let it : c.near-here.result < (view_of c.args.view.now).count = omega (arith, c.if-count_of-here.false, c.count_of.ensures) in it)) y.result y.ensures ∙ ap (λ (n : ℕ). eqb y.result.region x.result.region && eqb n (offset_in x.result c.args.a.0 + i)) (sym c.offset_in-there.ensures) ∙ ap (λ (n : ℕ). eqb y.result.region x.result.region && eqb c.offset_in-there.result.0 (n + i)) (sym c.offset_in-offset.ensures) in it) ∙ c.if-not-other-range.true))
-
-pub overflow_add-i : goal.overflow_add-i
-overflow_add-i c = omega (arith, c.loop-i-test.true, c.requires.at_bound.2)
-
-pub loop-i-smaller : goal.loop-i-smaller
-loop-i-smaller c = omega (arith, c.loop-i-test.true)
 
 pub loop-i-preserved : goal.loop-i-preserved
 loop-i-preserved c =

@@ -1,44 +1,42 @@
 -- `routing::route::routes_judged` meets its contract. Assumes nothing.
 use native.Mathlib.Omega.{arith}
-use mathlib.Core.Path.{◌≡◌, refl, sym, ap, ◌∙◌}
+use mathlib.Core.Path.{refl, sym, ap, ap₂, ◌∙◌}
 use mathlib.Core.List.{List}
-use Prim.Native.Nat.{ℕ, ◌+◌, ◌-◌, ◌*◌, ◌/◌}
+use Prim.Native.Nat.{ℕ, ◌+◌, ◌-◌, ◌*◌, ◌<◌, ◌/◌}
 use lib.ListN.{length}
 use lib.Seq.{sets, length-sets}
 use Rattle.routing.specs.Route.{Routed, answer_words, answers_to}
-use Rattle.routing.proofs.RouteAllLaws.{fit_length, answers_start, answers_turn, answers_end}
+use Rattle.routing.proofs.RouteAllLaws.{fit_length, pair_first, pair_second, answers_start, answers_turn, answers_end}
 use Rattle.routing.proofs.route.routes_judged.Invariants.{one}
 use Rattle.routing.proofs.route.routes_judged.Goals as goal
 
 pub loop-i-init : goal.loop-i-init
-loop-i-init c =
-    (answers_start (one c.args.view.now c.args.block c.args.plugged.now) c.args.accesses.now c.args.answers.now (length c.args.accesses.now / 2) ((let it : length c.args.answers.now ≡ 4 * (length c.args.accesses.now / 2) = fit_length c.args.accesses.now c.args.answers.now c.requires.answers_value in it)), omega arith, refl)
-
-pub near-at-requires : goal.near-at-requires
-near-at-requires c = c.requires.judged
-
-pub route_at-answer-requires : goal.route_at-answer-requires
-route_at-answer-requires c = record { judged = c.requires.judged; le_block = c.requires.le_block; spot = c.near-at.ensures }
+loop-i-init c = record {
+  rest = answers_start (one c.args.view.now c.args.blocks.size c.args.blocks.plugged.now) c.args.accesses.now c.args.answers.now (length c.as_chunks.result.0.now)
+      (omega (arith, fit_length c.args.accesses.now c.args.answers.now c.requires.answers_value, c.as_chunks.ensures.front_len));
+  size = refl;
+}
 
 pub put_answer-requires : goal.put_answer-requires
-put_answer-requires c = omega (arith, c.loop-i-test.true, c.loop-i.invariant.2, (let it : length c.args.answers.now ≡ 4 * (length c.args.accesses.now / 2) = fit_length c.args.accesses.now c.args.answers.now c.requires.answers_value in it))
-
-pub loop-i-smaller : goal.loop-i-smaller
-loop-i-smaller c = omega (arith, c.loop-i-test.true)
+put_answer-requires c = omega (arith, c.loop-i-test.true, c.loop-i.auto.answers, fit_length c.args.accesses.now c.args.answers.now c.requires.answers_value, c.as_chunks.ensures.front_len)
 
 pub loop-i-preserved : goal.loop-i-preserved
 loop-i-preserved c =
     let l = c.loop-i in
-    let h = c.loop-i-test.true in
-    let f = one c.args.view.now c.args.block c.args.plugged.now in
-    let accesses = c.args.accesses.now in
-    let e = c.put_answer.ensures ∙ ap (λ (r : Routed). sets l.answers (4 * l.i) (answer_words r)) c.route_at-answer.ensures in (
-      ap (λ (x : List ℕ). sets x (4 * (l.i + 1)) (answers_to f accesses (l.i + 1) (length accesses / 2 - (l.i + 1)))) e ∙ answers_turn f accesses l.answers l.i (length accesses / 2) h ∙ l.invariant.0,
-      omega (arith, h),
-      ap length e ∙ simp length-sets l.invariant.2,
-    )
+    let f = one c.args.view.now c.args.blocks.size c.args.blocks.plugged.now in
+    let xs = c.args.accesses.now in
+    let n = length c.as_chunks.result.0.now in
+    let h : l.i < length xs / 2 = omega (arith, c.loop-i-test.true, c.as_chunks.ensures.front_len) in
+    let front = c.as_chunks.ensures.front in
+    let one_answer = c.route_at-answer.ensures ∙ ap₂ f (pair_first (length xs / 2) xs front l.i _ h) (pair_second (length xs / 2) xs front l.i _ h) in
+    let e = c.put_answer.ensures ∙ ap (λ (r : Routed). sets l.answers (4 * l.i) (answer_words r)) one_answer in
+    record {
+      rest = ap (λ (x : List ℕ). sets x (4 * (l.i + 1)) (answers_to f xs (l.i + 1) (n - (l.i + 1)))) e ∙ answers_turn f xs l.answers l.i n c.loop-i-test.true ∙ l.invariant.rest;
+      size = ap length e ∙ simp length-sets l.invariant.size;
+    }
 
 pub returns : goal.returns
 returns c =
     let l = c.loop-i in
-    sym (answers_end (one c.args.view.now c.args.block c.args.plugged.now) c.args.accesses.now l.answers (4 * l.i) l.i (length c.args.accesses.now / 2) c.loop-i-test.false) ∙ l.invariant.0
+    let f = one c.args.view.now c.args.blocks.size c.args.blocks.plugged.now in
+    sym (answers_end f c.args.accesses.now l.answers (4 * l.i) l.i (length c.as_chunks.result.0.now) c.loop-i-test.false) ∙ l.invariant.rest ∙ ap (answers_to f c.args.accesses.now 0) c.as_chunks.ensures.front_len

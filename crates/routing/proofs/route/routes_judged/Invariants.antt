@@ -1,6 +1,6 @@
 use mathlib.Core.Path.{◌≡◌}
 use mathlib.Core.List.{List}
-use Prim.Native.Nat.{ℕ, ◌-◌, ◌*◌, ◌≤◌}
+use Prim.Native.Nat.{ℕ, ◌-◌, ◌*◌}
 use lib.ListN.{length}
 use lib.Seq.{sets}
 use Rattle.map_records.specs.View.{entries}
@@ -15,8 +15,8 @@ abbrev pub one : List ℕ → ℕ → List ℕ → ℕ → ℕ → Routed
 one view block plugged = routed (leaf_at (entries (view_of view))) (plugged_in block plugged)
 
 abbrev pub invariant-loop-i : goal.invariant-loop-i
-invariant-loop-i l = (sets l.answers (4 * l.i) (answers_to (one l.view l.block l.plugged) l.accesses l.i (l.count - l.i)) ≡ answers_to (one l.view l.block l.plugged) l.accesses 0 l.count)
-    × (l.i ≤ l.count) × (length l.answers ≡ length l.initial.answers)
-
-abbrev pub decreases-loop-i : goal.decreases-loop-i
-decreases-loop-i l = l.count - l.i
+invariant-loop-i l =
+    record {
+      rest : sets l.answers (4 * l.i) (answers_to (one l.view l.blocks.size l.blocks.plugged.now) l.accesses l.i (length l.pairs - l.i)) ≡ answers_to (one l.view l.blocks.size l.blocks.plugged.now) l.accesses 0 (length l.pairs);
+      size : length l.answers ≡ length l.initial.answers;
+    }

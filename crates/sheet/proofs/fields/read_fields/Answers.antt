@@ -1,18 +1,16 @@
 -- `sheet::fields::read_fields` meets its contract. Assumes nothing.
 use Rattle.sheet.proofs.RegionLaws.{fields_more, fields_refused, fields_done}
-use Rattle.sheet.specs.Promises.{region_read_by}
-use mathlib.Core.Path.{refl, sym, ap, ◌∙◌}
-use borrow.Author.Rules.{rules}
+use Rattle.std.proofs.lemmas.Result.{err_from_is_err_and}
+use mathlib.Core.Path.{refl, sym, ◌∙◌}
 use Rattle.sheet.proofs.fields.read_fields.Goals as goal
 
-pub loop-i-init : goal.loop-i-init
-loop-i-init c = (search rules, refl)
+pub returns-in_err-region : goal.returns-in_err-region
+returns-in_err-region c =
+    let p = err_from_is_err_and c.from_residual.result c.from_residual.ensures.1 in
+    rw (p.1, p.2) (fields_refused _ _ _ _ c.loop-field-test.true _ refl _ (sym c.in_err-region.ensures) ∙ c.loop-field.invariant)
 
-pub returns-in-Refused : goal.returns-in-Refused
-returns-in-Refused c = fields_refused _ _ _ _ c.loop-i-test.true _ c.field_at-field.ensures _ (sym c.read_field.ensures ∙ ap region_read_by c.in-Refused.is) ∙ c.loop-i.invariant.1
-
-pub loop-i-preserved : goal.loop-i-preserved
-loop-i-preserved c = (search rules, fields_more _ _ _ _ c.loop-i-test.true _ c.field_at-field.ensures _ _ (sym c.read_field.ensures ∙ ap region_read_by c.in-Whole.is) ∙ c.loop-i.invariant.1)
+pub loop-field-preserved : goal.loop-field-preserved
+loop-field-preserved c = fields_more _ _ _ _ c.loop-field-test.true _ refl _ _ (sym c.in_ok-region.ensures) ∙ c.loop-field.invariant
 
 pub returns : goal.returns
-returns c = fields_done _ _ _ _ c.loop-i-test.false ∙ c.loop-i.invariant.1
+returns c = fields_done _ _ _ _ c.loop-field-test.false ∙ c.loop-field.invariant

@@ -1,15 +1,16 @@
 -- `sheet::fields::read_region` meets its contract. Assumes nothing.
-use Rattle.sheet.proofs.RegionLaws.{region_refused, region_kind, region_read}
-use mathlib.Core.Bool.{not}
-use Rattle.sheet.specs.Number.{read_by}
-use mathlib.Core.Path.{sym, ap, ◌∙◌}
+use Rattle.sheet.proofs.RegionLaws.{region_refused, region_unknown, region_read}
+use Rattle.std.proofs.lemmas.Result.{err_from_is_err_and}
+use mathlib.Core.Path.{sym, ◌∙◌}
 use Rattle.sheet.proofs.fields.read_region.Goals as goal
 
-pub returns-then-not-is_kind : goal.returns-then-not-is_kind
-returns-then-not-is_kind c = region_kind _ _ _ _ (sym c.read_number.ensures ∙ ap read_by c.in-Value.is) (ap not (sym c.is_kind.ensures ∙ c.if-not-is_kind.true))
+pub returns-in_err-number : goal.returns-in_err-number
+returns-in_err-number c =
+    let p = err_from_is_err_and c.from_residual.result c.from_residual.ensures.1 in
+    rw (p.1, p.2) (region_refused _ _ _ (sym c.in_err-number.ensures))
 
-pub returns-in-Refused : goal.returns-in-Refused
-returns-in-Refused c = region_refused _ _ _ (sym c.read_number.ensures ∙ ap read_by c.in-Refused.is)
+pub returns-in_default : goal.returns-in_default
+returns-in_default c = region_unknown _ _ _ _ (sym c.in_ok-number.ensures) c.in_default.ensures
 
-pub returns-else-not-is_kind : goal.returns-else-not-is_kind
-returns-else-not-is_kind c = c.read_fields.ensures ∙ region_read _ _ _ _ (sym c.read_number.ensures ∙ ap read_by c.in-Value.is) (ap not (sym c.is_kind.ensures ∙ c.if-not-is_kind.false))
+pub returns : goal.returns
+returns c = c.read_fields.ensures ∙ rw c.number.ensures (region_read _ _ c.in-Ok.kind _ _ (sym c.in_ok-number.ensures) c.in-Ok.ensures)

@@ -1,9 +1,12 @@
 -- `sheet::reading::read_sheet` meets its contract. Assumes nothing.
-use mathlib.Core.Path.{sym, ap, ◌∙◌}
+use mathlib.Core.Path.{◌≡◌, sym, ap, ◌∙◌}
 use Prim.Native.Nat.{ℕ}
-use lib.ListN.{length, length-replicate}
+use lib.ListN.{length-replicate}
 use Rattle.map_records.proofs.WordLaws.{empty_map_words}
-use Rattle.map_check.specs.Reply.{Laid}
+use Rattle.map_check.specs.Reply.{accepted, passes, Laid}
+use Rattle.sheet.specs.Answer.{sheet_fault_reply, sheet_reply}
+use Rattle.sheet.proofs.ReadLaws.{fault_not}
+use Rattle.std.proofs.lemmas.Result.{err_from_is_err_and}
 use Rattle.sheet.proofs.SheetLaws.{into_other, into_reply, into_read, into_kept}
 use Rattle.map_records.specs.Limits.{map_length}
 use Rattle.sheet.proofs.reading.read_sheet.Goals as goal
@@ -13,28 +16,20 @@ returns-then-map-ne-MAP_WORDS c =
     let e = into_other c.args.sheet.now c.args.memory_length c.args.map.now c.if-map-ne-MAP_WORDS.true in
     (sym (ap (λ (x : Laid). x.reply) e), sym (ap (λ (x : Laid). x.words) e))
 
-pub read_map-answer-requires : goal.read_map-answer-requires
-read_map-answer-requires c = (length-replicate {A = ℕ} map_length 0, empty_map_words)
+pub read_map-requires : goal.read_map-requires
+read_map-requires c = (length-replicate {A = ℕ} map_length 0, empty_map_words)
 
-pub slice_bounds-copy_words-end : goal.slice_bounds-copy_words-end
-slice_bounds-copy_words-end c = sym c.read_map-answer.ensures.size
-
-pub copy_words-requires : goal.copy_words-requires
-copy_words-requires c = c.if-map-ne-MAP_WORDS.false ∙ sym c.read_map-answer.ensures.size
-
-pub shape_of-map : goal.shape_of-map
-shape_of-map c = ap length c.copy_words.ensures ∙ c.read_map-answer.ensures.size ∙ sym c.if-map-ne-MAP_WORDS.false
-
-pub returns-then-is_accepted : goal.returns-then-is_accepted
-returns-then-is_accepted c =
+pub returns-in_err-read_map : goal.returns-in_err-read_map
+returns-in_err-read_map c =
     let s = c.args in
-    let r = c.read_map-answer in
-    let p = sym c.is_accepted.ensures ∙ c.if-is_accepted.true in
-    (sym (into_reply s.sheet.now s.memory_length s.map.now c.if-map-ne-MAP_WORDS.false r.result r.new.map r.ensures), c.copy_words.ensures ∙ sym (into_read s.sheet.now s.memory_length s.map.now c.if-map-ne-MAP_WORDS.false r.result r.new.map r.ensures p))
+    let r = c.read_map in
+    let p = err_from_is_err_and c.from_residual.result c.from_residual.ensures.1 in
+    let e : sheet_reply r.result ≡ sheet_fault_reply c.in_err-read_map.field-0.0 = ap sheet_reply c.in_err-read_map.was in
+    (ap sheet_reply p.1 ∙ ap sheet_fault_reply p.2 ∙ sym e ∙ sym (into_reply s.sheet.now s.memory_length s.map.now c.if-map-ne-MAP_WORDS.false r.result r.new.map r.ensures), sym (into_kept s.sheet.now s.memory_length s.map.now c.if-map-ne-MAP_WORDS.false r.result r.new.map r.ensures (ap passes e ∙ fault_not _)))
 
-pub returns-else-is_accepted : goal.returns-else-is_accepted
-returns-else-is_accepted c =
+pub returns : goal.returns
+returns c =
     let s = c.args in
-    let r = c.read_map-answer in
-    let p = sym c.is_accepted.ensures ∙ c.if-is_accepted.false in
-    (sym (into_reply s.sheet.now s.memory_length s.map.now c.if-map-ne-MAP_WORDS.false r.result r.new.map r.ensures), sym (into_kept s.sheet.now s.memory_length s.map.now c.if-map-ne-MAP_WORDS.false r.result r.new.map r.ensures p))
+    let r = c.read_map in
+    let e : sheet_reply r.result ≡ accepted = ap sheet_reply c.in_ok-read_map.was in
+    (sym e ∙ sym (into_reply s.sheet.now s.memory_length s.map.now c.if-map-ne-MAP_WORDS.false r.result r.new.map r.ensures), c.copy_from_slice.ensures.after ∙ sym (into_read s.sheet.now s.memory_length s.map.now c.if-map-ne-MAP_WORDS.false r.result r.new.map r.ensures (ap passes e)))

@@ -1,20 +1,21 @@
 -- `virtqueue::chain::fetch` meets its contract. Assumes nothing.
-use Rattle.std.proofs.Common.{◌+◌, ◌*◌, sym, ◌∙◌}
+use Rattle.std.proofs.Common.{◌≡◌, ℕ, ◌+◌, ◌*◌, List, sym, ap, ◌∙◌}
 use Rattle.map_records.specs.Words.{view_of}
 use Rattle.guest_view.proofs.GuestLaws.{all_memory}
-use Rattle.virtqueue.specs.Chain.{fetched}
+use Rattle.virtqueue.specs.Chain.{descriptor_at, fetched}
+use Rattle.virtqueue.specs.Promises.{place_of}
+use Rattle.virtqueue.proofs.ChainLaws.{descriptor_laid}
 use Rattle.virtqueue.proofs.chain.fetch.Goals as goal
 
-pub reaches-requires : goal.reaches-requires
-reaches-requires c = record { judged = c.requires.lent.judged; table = (c.requires.lent.some, c.requires.lent.table) }
-
-pub descriptor_at-d-requires : goal.descriptor_at-d-requires
-descriptor_at-d-requires c = record { judged = c.requires.lent.judged; backed = c.requires.lent.backed; in_memory = all_memory (view_of c.args.view.now) c.args.block c.args.plugged.now (c.args.table.0 + 16 * c.args.i) 16 (sym c.reaches.ensures ∙ c.if-reaches.true) }
-
-pub returns-then-reaches : goal.returns-then-reaches
+pub returns-then-not-reaches : goal.returns-then-not-reaches
 unfolding fetched
-returns-then-reaches c = simp (sym c.reaches.ensures ∙ c.if-reaches.true, c.descriptor_at-d.ensures.0)
+returns-then-not-reaches c = rw (← c.from.ensures) (simp (sym c.reaches.ensures ∙ c.if-not-reaches.true))
+
+pub read_bytes-requires-clause-in_memory : goal.read_bytes-requires-clause-in_memory
+read_bytes-requires-clause-in_memory c = let g = c.args.guest.now in all_memory (view_of g.view.now) g.block g.plugged.now (c.args.table.0 + 16 * c.from.result) 16 (sym c.reaches.ensures ∙ c.if-not-reaches.false)
 
 pub returns : goal.returns
 unfolding fetched
-returns c = simp (sym c.reaches.ensures ∙ c.if-reaches.false)
+returns c = let e : c.descriptor_of.result ≡ descriptor_at (place_of c.args.guest.now) c.args.guest.now.mem.now (c.args.table.0 + 16 * c.from.result) =
+    c.descriptor_of.ensures ∙ ap (λ (b : List ℕ). descriptor_at (λ a. a) b 0) c.read_bytes.ensures ∙ descriptor_laid _ _ _ in
+    rw (← c.from.ensures) (simp (sym c.reaches.ensures ∙ c.if-not-reaches.false, e))

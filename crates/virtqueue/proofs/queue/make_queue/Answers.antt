@@ -3,10 +3,10 @@ use Rattle.std.proofs.Common.{sym, ◌∙◌}
 use Rattle.virtqueue.specs.Queue.{made}
 use Rattle.virtqueue.proofs.queue.make_queue.Goals as goal
 
-pub returns-then-areas_ok : goal.returns-then-areas_ok
+pub returns-then-not-areas_ok : goal.returns-then-not-areas_ok
 unfolding made
-returns-then-areas_ok c = rw (sym c.areas_ok.ensures ∙ c.if-areas_ok.true)
+returns-then-not-areas_ok c = rw (sym c.areas_ok.ensures ∙ c.if-not-areas_ok.true)
 
 pub returns : goal.returns
 unfolding made
-returns c = rw (sym c.areas_ok.ensures ∙ c.if-areas_ok.false, c.no_queue.ensures)
+returns c = rw (sym c.areas_ok.ensures ∙ c.if-not-areas_ok.false)

@@ -1,59 +1,66 @@
 -- `virtqueue::serve::step_judged` meets its contract. Assumes nothing.
-use Rattle.std.proofs.Common.{◌≡◌, ℕ, ◌<◌, List, length, sym, refl, ap, ◌∙◌, subst, ap₂, arith}
+use Rattle.std.proofs.Common.{◌≡◌, ℕ, ◌<◌, Bool, List, length, sym, refl, ap, ◌∙◌, subst, ap₂, arith}
 use Rattle.device_words.specs.Words.{device_of}
 use Rattle.device_words.proofs.RuleLaws.{device_valid, valid_sizes}
 use Rattle.map_records.specs.Words.{view_of}
 use Rattle.guest_view.specs.Guest.{Guest, view_guest, by_view}
-use Rattle.virtqueue.specs.Step.{offered}
-use Rattle.virtqueue.specs.Promises.{Takes, TakesAll}
+use Rattle.virtqueue.specs.Lent.{guest_in}
+use Rattle.virtqueue.specs.Step.{Offer, offered}
+use Rattle.virtqueue.specs.Promises.{Ready}
+use Rattle.virtqueue.specs.declared.chain.Gathered.{Gathered}
 use Rattle.virtqueue.specs.declared.queue.SplitQueue.{SplitQueue}
-use Rattle.virtqueue.specs.declared.take.TakenOffer.{TakenOffer}
 use Rattle.virtqueue.proofs.DeviceLaws.{tables}
-use Rattle.virtqueue.proofs.StepLaws.{within_moved, used_within, used_bytes_length, judged_stop, judged_idle, judged_used, judged_within, judged_low, judged_ready}
+use Rattle.virtqueue.proofs.StepLaws.{within_moved, used_within, judged_stop, judged_idle, judged_used, judged_within, judged_ready}
 use Rattle.virtqueue.proofs.serve.step_judged.Goals as goal
 
--- what was taken, by the device's record
-took : (view device mem : List ℕ) (q : SplitQueue) (block : ℕ) (table : List ℕ) (t : TakenOffer) (request places : List ℕ)
-    → block ≡ (device_of device).block_size → table ≡ (device_of device).plugged → TakesAll view mem block table q t request places
-    → Takes (by_view (view_of view) (device_of device)) mem (offered (by_view (view_of view) (device_of device)) mem q) t request places
-took view device mem q block table t request places b p h =
-    subst (λ (g : Guest). Takes g mem (offered g mem q) t request places) (ap₂ (λ (b : ℕ) (t : List ℕ). view_guest (view_of view) b t) b p) h
+-- the guest that was lent is the device's
+module _ (view device : List ℕ) (q : SplitQueue) (mem : List ℕ) (block : ℕ) (table : List ℕ)
+    (b : block ≡ (device_of device).block_size) (p : table ≡ (device_of device).plugged) where
+  same : guest_in view block table ≡ by_view (view_of view) (device_of device)
+  same = ap₂ (λ (b : ℕ) (t : List ℕ). view_guest (view_of view) b t) b p
 
-pub take-offer-requires : goal.take-offer-requires
-take-offer-requires c = let w = c.args.device.now in
-    let some : 0 < c.block_size-block.result = omega (arith, c.block_size-block.ensures, (device_valid (device_of w) c.requires.valid).least) in
-    record {
-      lent = record { judged = c.requires.judged; backed = c.requires.backed; some = some; table = ap length c.plugged-table.ensures ∙ (tables w c.requires.words).0 };
-      queue = c.requires.queue;
-      buffers = record { bytes = refl; room = refl };
-    }
+  offer : (o : Offer) → offered (guest_in view block table) mem q ≡ o → offered (by_view (view_of view) (device_of device)) mem q ≡ o
+  offer o e = ap (λ (g : Guest). offered g mem q) (sym same) ∙ e
 
-pub used_places-requires : goal.used_places-requires
-used_places-requires c = let a = c.args in
-    let p = c.requires in
-    record { judged = p.judged; queue_value = p.queue; used_in = judged_used (view_of a.view.now) a.device.now p.words a.queue a.mem.now _ _ _ (took a.view.now a.device.now a.mem.now a.queue _ _ _ _ _ c.block_size-block.ensures c.plugged-table.ensures c.take-offer.ensures) _ _ c.in-Ready.is; out_len = refl }
+  its_chain : (h : ℕ) (notify : Bool) (t : Gathered) → Ready (guest_in view block table) mem (offered (guest_in view block table) mem q) h notify t
+      → Ready (by_view (view_of view) (device_of device)) mem (offered (by_view (view_of view) (device_of device)) mem q) h notify t
+  its_chain h notify t r = subst (λ (g : Guest). Ready g mem (offered g mem q) h notify t) same r
 
-pub used_bytes-bytes-requires : goal.used_bytes-bytes-requires
-used_bytes-bytes-requires c = let a = c.args in let p = c.requires in judged_low (view_of a.view.now) a.device.now p.words a.queue a.mem.now _ _ _ (took a.view.now a.device.now a.mem.now a.queue _ _ _ _ _ c.block_size-block.ensures c.plugged-table.ensures c.take-offer.ensures) _ _ c.in-Ready.is p.queue
+pub invariant_of-guest : goal.invariant_of-guest
+invariant_of-guest c = let w = c.args.device.now in
+    let some : 0 < c.block_size.result = omega (arith, c.block_size.ensures, (device_valid (device_of w) c.requires.valid).least) in
+    record { lent = record { judged = c.requires.judged; backed = c.requires.backed; some = some; table = ap length c.plugged.ensures ∙ (tables w c.requires.words).0 } }
 
-pub serve-requires : goal.serve-requires
-serve-requires c = let a = c.args in
-    let p = c.requires in
-    let v = view_of a.view.now in
-    let e = c.in-Ready.is in
-    let used = judged_used (view_of a.view.now) a.device.now p.words a.queue a.mem.now _ _ _ (took a.view.now a.device.now a.mem.now a.queue _ _ _ _ _ c.block_size-block.ensures c.plugged-table.ensures c.take-offer.ensures) _ _ e in record { device_len = (p.words, valid_sizes _ (device_valid _ p.valid)); places_len = (c.take-offer.auto.places, judged_within (view_of a.view.now) a.device.now p.words a.queue a.mem.now _ _ _ (took a.view.now a.device.now a.mem.now a.queue _ _ _ _ _ c.block_size-block.ensures c.plugged-table.ensures c.take-offer.ensures) _ _ e _ p.backed); used_len = (c.used_places.auto.out ∙ sym (ap length c.used_bytes-bytes.ensures ∙ used_bytes_length _ _), within_moved _ _ _ _ c.used_places.ensures refl (used_within v a.queue _ p.backed used)) }
+pub used_places-used-requires-clause-used_in : goal.used_places-used-requires-clause-used_in
+used_places-used-requires-clause-used_in c = let a = c.args in
+    let r = its_chain a.view.now a.device.now a.queue a.mem.now _ _ c.block_size.ensures c.plugged.ensures _ _ _ (rw c.in-Ok-Some.field-0-is at c.in-Ok-Some.ensures) in
+    judged_used (view_of a.view.now) a.device.now c.requires.words a.queue a.mem.now _ _ _ r
 
-pub returns-in-Stop : goal.returns-in-Stop
-returns-in-Stop c = let a = c.args in let p = c.requires in judged_stop (view_of a.view.now) a.device.now p.words a.queue a.mem.now _ _ _ (took a.view.now a.device.now a.mem.now a.queue _ _ _ _ _ c.block_size-block.ensures c.plugged-table.ensures c.take-offer.ensures) _ _ c.in-Stop.is c.stopped.ensures
+pub serve-requires-clause-device_len : goal.serve-requires-clause-device_len
+serve-requires-clause-device_len c = (c.requires.words, valid_sizes _ (device_valid _ c.requires.valid))
 
-pub returns-in-Idle : goal.returns-in-Idle
-returns-in-Idle c = let a = c.args in let p = c.requires in judged_idle (view_of a.view.now) a.device.now p.words a.queue a.mem.now _ _ _ (took a.view.now a.device.now a.mem.now a.queue _ _ _ _ _ c.block_size-block.ensures c.plugged-table.ensures c.take-offer.ensures) c.in-Idle.is
+pub serve-requires-clause-places_len : goal.serve-requires-clause-places_len
+serve-requires-clause-places_len c = let a = c.args in
+    let r = its_chain a.view.now a.device.now a.queue a.mem.now _ _ c.block_size.ensures c.plugged.ensures _ _ _ (rw c.in-Ok-Some.field-0-is at c.in-Ok-Some.ensures) in
+    (omega arith, judged_within (view_of a.view.now) a.device.now c.requires.words a.queue a.mem.now _ _ _ r _ c.requires.backed)
 
-pub returns-in-Ready : goal.returns-in-Ready
-returns-in-Ready c =
-    let a = c.args in
-    let p = c.requires in
-    let e = c.in-Ready.is in
-    judged_ready (view_of a.view.now) a.device.now p.words a.queue a.mem.now _ _ _
-    (took a.view.now a.device.now a.mem.now a.queue _ _ _ _ _ c.block_size-block.ensures c.plugged-table.ensures c.take-offer.ensures) _ _ e _ _ _ _ _ c.advanced.ensures
-    c.used_places.ensures c.used_bytes-bytes.ensures c.serve.ensures.0 c.serve.ensures.1
+pub serve-requires-clause-used_len : goal.serve-requires-clause-used_len
+serve-requires-clause-used_len c = let a = c.args in
+    let r = its_chain a.view.now a.device.now a.queue a.mem.now _ _ c.block_size.ensures c.plugged.ensures _ _ _ (rw c.in-Ok-Some.field-0-is at c.in-Ok-Some.ensures) in (
+      omega arith,
+      within_moved _ _ _ _ c.used_places-used.ensures refl (used_within (view_of a.view.now) a.queue _ c.requires.backed (judged_used (view_of a.view.now) a.device.now c.requires.words a.queue a.mem.now _ _ _ r)),
+    )
+
+pub returns-in-Err : goal.returns-in-Err
+returns-in-Err c = judged_stop (view_of c.args.view.now) c.args.device.now c.requires.words c.args.queue c.args.mem.now _ _
+    (offer c.args.view.now c.args.device.now c.args.queue c.args.mem.now _ _ c.block_size.ensures c.plugged.ensures _ c.in-Err.ensures) c.stopped_by.ensures
+
+pub returns-in-Ok-None : goal.returns-in-Ok-None
+returns-in-Ok-None c = let e = rw c.in-Ok-None.field-0-is at c.in-Ok-None.ensures in
+    judged_idle (view_of c.args.view.now) c.args.device.now c.requires.words c.args.queue c.args.mem.now
+    (offer c.args.view.now c.args.device.now c.args.queue c.args.mem.now _ _ c.block_size.ensures c.plugged.ensures _ e)
+
+pub returns-in-Ok-Some : goal.returns-in-Ok-Some
+returns-in-Ok-Some c = let a = c.args in
+    let r = its_chain a.view.now a.device.now a.queue a.mem.now _ _ c.block_size.ensures c.plugged.ensures _ _ _ (rw c.in-Ok-Some.field-0-is at c.in-Ok-Some.ensures) in
+    judged_ready (view_of a.view.now) a.device.now c.requires.words a.queue a.mem.now _ _ _ r _ _ _ _ _ c.advanced.ensures c.used_places-used.ensures c.used_bytes-bytes.ensures c.serve.ensures.0 c.serve.ensures.1

@@ -1,6 +1,9 @@
 -- `virtqueue::serve::used_bytes` meets its contract. Assumes nothing.
-use Rattle.virtqueue.proofs.StepLaws.{used_stored}
+use Rattle.std.proofs.Common.{◌≡◌, ◌/◌, arith}
+use Rattle.device_words.specs.Bytes.{le}
+use Rattle.virtqueue.specs.Step.{used_bytes}
 use Rattle.virtqueue.proofs.serve.used_bytes.Goals as goal
 
 pub returns : goal.returns
-returns c = used_stored _ _ _ c.requires c.wrapping_add_u16-next.ensures.value
+unfolding used_bytes le
+returns c = let p : c.args.head / 256 / 256 ≡ 0 = omega (arith, c.well_formed) in rw (c.to_le_bytes.ensures, c.to_le_bytes-2.ensures, p)

@@ -1,5 +1,5 @@
 -- `virtqueue::serve::used_places` meets its contract. Assumes nothing.
-use Rattle.std.proofs.Common.{◌≡◌, ℕ, List, ◌++◌, map, length, take, drop, refl, ap, ◌∙◌, arith, length-drop, length-take}
+use Rattle.std.proofs.Common.{◌≡◌, ℕ, List, ◌++◌, map, replicate, length, take, drop, refl, ap, ◌∙◌, arith, length-drop, length-take}
 use lib.Seq.{sets, length-sets}
 use Rattle.map_records.specs.Words.{view_of}
 use Rattle.guest_view.specs.Guest.{addresses}
@@ -10,6 +10,10 @@ use Rattle.virtqueue.proofs.ChainLaws.{stretch_stored}
 use Rattle.virtqueue.proofs.QueueLaws.{queue_facts}
 use Rattle.virtqueue.proofs.StepLaws.{used_laid, memory_as}
 use Rattle.virtqueue.proofs.serve.used_places.Goals as goal
+
+-- no places yet
+abbrev blank : List ℕ
+blank = replicate 10 0
 
 -- the places after those of the slot, `found`, were stored
 abbrev stored : List ℕ → List ℕ → List ℕ
@@ -32,19 +36,19 @@ pub used_idx-idx-requires : goal.used_idx-idx-requires
 used_idx-idx-requires c = omega (arith, (queue_facts c.args.queue c.requires.queue_value).used)
 
 pub find_places-requires : goal.find_places-requires
-find_places-requires c = let x = c.args.out.now in
-    record { judged = c.requires.judged; in_memory = memory_as (view_of c.args.view.now) _ _ _ 8 c.used_entry-entry.ensures (omega (arith, length-take 8 (drop 0 x), length-drop 0 x, c.requires.out_len)) c.requires.used_in.entry }
+find_places-requires c = let x = blank in
+    record { judged = c.requires.judged; in_memory = memory_as (view_of c.args.view.now) _ _ _ 8 c.used_entry-entry.ensures refl c.requires.used_in.entry }
 
 pub find_places-requires-2 : goal.find_places-requires-2
-find_places-requires-2 c = let x = stored c.args.out.now c.find_places.new.out in
-    let f : length x ≡ 10 = full (place_in (view_of c.args.view.now)) c.args.queue c.args.out.now _ _ c.requires.out_len c.used_entry-entry.ensures c.find_places.ensures in
+find_places-requires-2 c = let x = stored blank c.find_places.new.out in
+    let f : length x ≡ 10 = full (place_in (view_of c.args.view.now)) c.args.queue blank _ _ refl c.used_entry-entry.ensures c.find_places.ensures in
     record { judged = c.requires.judged; in_memory = memory_as (view_of c.args.view.now) _ _ _ 2 c.used_idx-idx.ensures (omega (arith, length-take 2 (drop 8 x), length-drop 8 x)) c.requires.used_in.idx }
 
 pub returns : goal.returns
-returns c = let x = stored c.args.out.now c.find_places.new.out in
+returns c = let x = stored blank c.find_places.new.out in
     let place = place_in (view_of c.args.view.now) in
-    let f : length x ≡ 10 = full place c.args.queue c.args.out.now _ _ c.requires.out_len c.used_entry-entry.ensures c.find_places.ensures in
+    let f : length x ≡ 10 = full place c.args.queue blank _ _ refl c.used_entry-entry.ensures c.find_places.ensures in
     stretch_stored place x _ (used_idx c.args.queue) 8 2 2 refl (omega arith)
     (c.find_places-2.ensures ∙ ap (λ (a : ℕ). map place (addresses a (length (take 2 (drop 8 x))))) c.used_idx-idx.ensures)
-    ∙ ap (λ (z : List ℕ). sets z 8 (map place (addresses (used_idx c.args.queue) 2))) (slot place c.args.queue c.args.out.now _ _ c.requires.out_len c.used_entry-entry.ensures c.find_places.ensures)
-    ∙ used_laid place c.args.queue c.args.out.now c.requires.out_len
+    ∙ ap (λ (z : List ℕ). sets z 8 (map place (addresses (used_idx c.args.queue) 2))) (slot place c.args.queue blank _ _ refl c.used_entry-entry.ensures c.find_places.ensures)
+    ∙ used_laid place c.args.queue blank refl

@@ -1,36 +1,43 @@
 -- `wicktumble::devices::wt_set_up` meets its contract. Assumes nothing.
-use mathlib.Core.Path.{ap, ◌∙◌}
-use mathlib.Core.Bool.{◌&&◌}
-use borrow.Author.Tests.{eqb-true}
-use lib.ListN.{length}
-use Rattle.map_check.proofs.Bools.{and_fst, and_snd}
-use Rattle.map_records.specs.Limits.{is_map}
-use Rattle.device_words.specs.Words.{is_device, device_length}
-use Rattle.memory_device.specs.Record.{HostOutcome}
+use mathlib.Core.Path.{refl, ap, ◌∙◌}
+use mathlib.Core.List.{List}
+use Prim.Native.Nat.{ℕ}
+use borrow.Author.Tests.{eq-eqb, ne_eqb}
+use Rattle.map_records.specs.Words.{map_of}
 use Rattle.memory_device.specs.Leaves.{words_left}
-use Rattle.wicktumble.specs.Result.{is_result}
-use Rattle.wicktumble.specs.Devices.{set_up_call}
-use Rattle.wicktumble.proofs.CallLaws.{taken, refused, result_fits, unmade_as, reply_made}
+use Rattle.memory_device.specs.Record.{HostOutcome}
+use Rattle.memory_device.specs.SetUp.{set_up, set_up_fault_reply}
+use Rattle.wicktumble.specs.Result.{reply_report}
+use Rattle.wicktumble.specs.Devices.{values_of, set_up_call}
+use Rattle.wicktumble.proofs.CallLaws.{told_as, reply_told}
 use Rattle.wicktumble.proofs.devices.wt_set_up.Goals as goal
 
-pub put_fresh-requires : goal.put_fresh-requires
-put_fresh-requires c =
-    let a = c.args in
-    let fit = and_snd (is_map a.map.now) (is_device a.device.now && is_result a.res.now) c.if-map-device.true in
-    eqb-true (length a.device.now) device_length (and_fst (is_device a.device.now) (is_result a.res.now) fit)
-
-pub tell-requires : goal.tell-requires
-tell-requires c =
-    let a = c.args in
-    result_fits (is_device a.device.now) a.res.now (and_snd (is_map a.map.now) (is_device a.device.now && is_result a.res.now) c.if-map-device.true)
-
-pub returns-then-map-device : goal.returns-then-map-device
+pub returns-in_default : goal.returns-in_default
 unfolding set_up_call
-returns-then-map-device c =
-    let e = c.set_up-set.ensures in
-    let w = c.args.device.now in
-    reply_made (c.put_fresh.ensures ∙ ap (λ (o : HostOutcome). words_left o.reply o.device w) e) c.tell.ensures c.say_set_up.ensures (ap (λ (o : HostOutcome). o.reply) e) (taken _ _ c.if-map-device.true)
+returns-in_default c = rw (ne_eqb _ _ c.in_default.ensures.cases) (refl, (c.refused.ensures, refl))
+
+pub returns-in_default-as_mut_array : goal.returns-in_default-as_mut_array
+unfolding set_up_call
+returns-in_default-as_mut_array c =
+    rw (eq-eqb _ _ c.in-Some.ensures.cases.long, ne_eqb _ _ c.in_default-as_mut_array.ensures.cases)
+    (refl, (c.refused-in_default-as_mut_array.ensures, refl))
+
+pub returns-in_default-as_mut_array-2 : goal.returns-in_default-as_mut_array-2
+unfolding set_up_call
+returns-in_default-as_mut_array-2 c =
+    rw (eq-eqb _ _ c.in-Some.ensures.cases.long, eq-eqb _ _ c.in-Some-as_mut_array.ensures.cases.long, ne_eqb _ _ c.in_default-as_mut_array-2.ensures.cases)
+    (c.in-Some-as_mut_array.ensures.cases.same, (c.refused-in_default-as_mut_array-2.ensures, refl))
 
 pub returns : goal.returns
 unfolding set_up_call
-returns c = unmade_as (refused _ _ c.if-map-device.false)
+returns c =
+    let a = c.args in
+    let made : List ℕ → HostOutcome = λ m. set_up (map_of m) a.memory_length (values_of a.block_size a.addr a.usable_size a.requested_size) in
+    let map = c.in-Some.ensures.cases in
+    let device = c.in-Some-as_mut_array.ensures.cases in
+    rw (eq-eqb _ _ map.long, eq-eqb _ _ device.long, eq-eqb _ _ c.in-Some-as_mut_array-2.ensures.cases.long) (
+      c.put_fresh.ensures.words ∙ (λ i. words_left (made (map.same i)).reply (made (map.same i)).device (device.same i)),
+      told_as c.tell.ensures
+          (reply_told set_up_fault_reply c.put_fresh.result
+          ∙ ap reply_report (c.put_fresh.ensures.reply ∙ (λ i. (made (map.same i)).reply))),
+    )

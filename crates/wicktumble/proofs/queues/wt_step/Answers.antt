@@ -1,16 +1,36 @@
 -- `wicktumble::queues::wt_step` meets its contract. Assumes nothing.
-use Rattle.wicktumble.proofs.QueueCalls.{Fits, fits, step_left_lem, step_refused}
+use mathlib.Core.Path.{refl, sym, ap, ◌∙◌}
+use mathlib.Core.List.{List}
+use Prim.Native.Nat.{ℕ}
+use lib.ListN.{length}
+use borrow.Author.Tests.{ne_eqb}
+use Rattle.wicktumble.specs.Queues.{queue_words}
+use Rattle.wicktumble.proofs.QueueCalls.{lent_some, lent_none, step_refused, step_done}
 use Rattle.wicktumble.proofs.queues.wt_step.Goals as goal
 
-pub queue_of-requires : goal.queue_of-requires
-queue_of-requires c = let fitted : Fits c.args.device.now c.args.queue.now c.args.res.now = fits c.args.view.now _ _ _ c.records_fit.ensures c.if-records_fit.true in fitted.queue
+pub returns-in_default : goal.returns-in_default
+returns-in_default c =
+    let a = c.args in
+    step_refused a.view.now a.device.now a.queue.now a.memory.now a.res.now
+    (lent_none a.view.now a.device.now a.queue.now a.res.now c.lent_queue.ensures c.in_default.is) c.refused.ensures
 
-pub put_queue-requires : goal.put_queue-requires
-put_queue-requires c = let fitted : Fits c.args.device.now c.args.queue.now c.args.res.now = fits c.args.view.now _ _ _ c.records_fit.ensures c.if-records_fit.true in fitted.queue.seven
+pub returns-in_default-as_mut_array : goal.returns-in_default-as_mut_array
+returns-in_default-as_mut_array c =
+    let a = c.args in
+    let l = lent_some a.view.now a.device.now a.queue.now c.lent_queue.ensures c.in-Some.is in
+    step_refused a.view.now a.device.now a.queue.now a.memory.now a.res.now
+    (rw (l.view, l.device, l.read.fits, ne_eqb _ _ c.in_default-as_mut_array.ensures.cases) refl) c.refused-in_default-as_mut_array.ensures
 
-pub returns-then-records_fit : goal.returns-then-records_fit
-returns-then-records_fit c = step_left_lem _ _ _ _ _ c.records_fit.ensures c.step_in_place-moved.result c.if-records_fit.true c.queue_of.ensures
-    c.step_in_place-moved.ensures c.put_queue.ensures c.say_step.ensures c.tell.ensures
+pub copy_from_slice-requires : goal.copy_from_slice-requires
+unfolding queue_words
+copy_from_slice-requires c =
+    let a = c.args in
+    let l = lent_some a.view.now a.device.now a.queue.now c.lent_queue.ensures c.in-Some.is in
+    l.read.long ∙ sym (ap (λ (w : List ℕ). length w) c.queue_words.ensures)
 
 pub returns : goal.returns
-returns c = step_refused _ _ _ _ _ c.records_fit.ensures c.if-records_fit.false
+returns c =
+    let a = c.args in
+    let l = lent_some a.view.now a.device.now a.queue.now c.lent_queue.ensures c.in-Some.is in
+    step_done a.view.now a.device.now a.queue.now a.memory.now a.res.now l c.in-Some-as_mut_array.ensures.cases.long
+    c.step_in_place-moved.result c.step_in_place-moved.ensures (c.copy_from_slice.ensures.after ∙ c.queue_words.ensures) c.tell.ensures

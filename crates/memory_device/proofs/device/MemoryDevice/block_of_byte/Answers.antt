@@ -5,4 +5,4 @@ use Rattle.memory_device.specs.Host.{byte_block}
 use Rattle.memory_device.proofs.device.MemoryDevice.block_of_byte.Goals as goal
 
 pub returns : goal.returns
-returns c = c.block_of_byte.ensures ∙ ap (λ (d : MemoryDevice). byte_block d c.args.offset.0) c.words_of-words.ensures.1
+returns c = c.block_of_byte.ensures ∙ ap (λ (d : MemoryDevice). byte_block d c.args.offset.0) c.words_of.ensures.1

@@ -1,13 +1,21 @@
 -- `memory_device::device::MemoryDevice::unpin` meets its contract. Assumes nothing.
-use Rattle.memory_device.specs.Record.{record_of}
 use mathlib.Core.Bool.{false, not}
+use Rattle.std.proofs.Common.{arith, rules}
 use Rattle.device_words.specs.Device.{MemoryDevice, is_pinned, with_pins, with_pin}
+use Rattle.device_words.specs.Words.{device_of}
+use Rattle.memory_device.specs.Record.{record_of, host_fault_reply, host_reply}
 use Rattle.memory_device.specs.Host.{unpin_block}
-use Rattle.memory_device.proofs.CallLaws.{by_value, whole_pinned}
+use Rattle.memory_device.specs.Leaves.{LeavesDevice}
+use Rattle.memory_device.proofs.CallLaws.{Whole, by_value, fair, whole_pinned, host_refuses}
 use Rattle.memory_device.proofs.device.MemoryDevice.unpin.Goals as goal
 
 pub returns : goal.returns
 unfolding unpin_block
-returns c = let a = c.args in
-    by_value (record_of a.self) c.words_of-words.result _ _ _ c.words_of-words.ensures.1 c.device_of-device.ensures
-    (λ (d : MemoryDevice). not (is_pinned d a.block.0)) 15 (λ (d : MemoryDevice). with_pins d (with_pin d.pinned a.block.0 false)) (whole_pinned (record_of a.self) a.block.0 false) c.unpin-answer.ensures
+returns c =
+    let d = record_of c.args.self in
+    let b = c.args.block.0 in
+    let whole : Whole d = record { plugged = omega arith; pins = omega arith } in
+    let call = c.changed.ensures.call in
+    let left : LeavesDevice (unpin_block (device_of call.shown.now) b) call.shown.now (host_reply c.changed.ensures.answer) c.changed.ensures.words = search rules in
+    by_value host_fault_reply host_refuses d whole (λ (d : MemoryDevice). unpin_block d b) (fair d whole (not (is_pinned d b)) 15 (with_pins d (with_pin d.pinned b false)) (whole_pinned d b false))
+    _ call.shows _ _ left _ c.changed.ensures.value

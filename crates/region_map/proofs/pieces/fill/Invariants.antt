@@ -1,9 +1,0 @@
-use Prim.Native.Nat.{◌-◌}
-use Rattle.region_map.proofs.FillLaws.{Filled}
-use Rattle.region_map.proofs.pieces.fill.Given as goal
-
-abbrev pub invariant-loop-a : goal.invariant-loop-a
-invariant-loop-a l = Filled l.initial.table l.region l.at.first.0 l.at.offset.0 l.at.end.0 l.table l.a.0 l.i
-
-abbrev pub decreases-loop-a : goal.decreases-loop-a
-decreases-loop-a l = l.at.end.0 - l.a.0

@@ -1,9 +1,0 @@
-use Prim.Native.Nat.{◌-◌}
-use Rattle.region_map.specs.Pieces.{count_of, TakenUpTo}
-use Rattle.region_map.proofs.pieces.skip.Given as goal
-
-abbrev pub invariant-loop-address : goal.invariant-loop-address
-invariant-loop-address l = TakenUpTo l.table l.i l.address.0 l.at
-
-abbrev pub decreases-loop-address : goal.decreases-loop-address
-decreases-loop-address l = count_of l.table - l.at
