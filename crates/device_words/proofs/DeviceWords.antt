@@ -111,13 +111,16 @@ tables_stored w t u p q l e f h =
 
 -- the test of as many words goes on to the tables where SETUP's rules are kept
 module _ (w : List ℕ) (l : length w ≡ device_length) where
-  pub setup_passed : {x : Bool} → setup_kept (device_at w) ≡ true → x ≡ tables_ok (device_at w) → x ≡ (is_device w && device_ok (device_of w))
+  pub setup_passed : {x : Bool} → setup_kept (device_at w) ≡ true → x ≡ tables_ok (device_at w) → x ≡ device_ok (device_of w)
   unfolding device_ok
-  setup_passed k e = rw (eq-eqb (length w) device_length l, device_at_lem w l, k) e
+  setup_passed k e = rw (device_at_lem w l, k) e
 
-  pub setup_failed : setup_kept (device_at w) ≡ false → false ≡ (is_device w && device_ok (device_of w))
+  pub setup_failed : setup_kept (device_at w) ≡ false → false ≡ device_ok (device_of w)
   unfolding device_ok
-  setup_failed k = rw (eq-eqb (length w) device_length l, device_at_lem w l, k)
+  setup_failed k = rw (device_at_lem w l, k)
+
+pub other_refused : (w : List ℕ) → (length w ≡ device_length → ⊥) → device_ok (device_of w) ≡ false
+other_refused w other = ap device_ok (device_none w other) ∙ none_refused
 
 -- what the test of the words says
 module _ (w : List ℕ) (x : Bool) (e : x ≡ (is_device w && device_ok (device_of w))) where

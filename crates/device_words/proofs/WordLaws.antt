@@ -15,6 +15,8 @@ use borrow.Author.Tests.{lt-ltb, le-ltb, le-leb, lt-leb, eq-eqb, ne_eqb, eqb-tru
 use Rattle.std.specs.List.{list_all, range_with_len}
 use Rattle.device_words.proofs.ListTests.{same_test, range_true, range_of}
 use Rattle.map_check.proofs.Bools.{or_left, or_right}
+use Rattle.std.proofs.lemmas.Nat.Bits.{ones_shr}
+use Rattle.std.specs.Prelude.{min}
 use Rattle.device_words.specs.Table.{IsTable, bit_of, bit_at, word_of, table_of, within, held_in, any_below}
 use Rattle.device_words.proofs.TableLaws.{word_bits, word_lt, word_ext, word_low, word_bit, block, table_ext, held_le, held_all, held_none, zero_word, zero_bit}
 use Rattle.map_records.proofs.Order.{side, eq_or_not}
@@ -43,6 +45,16 @@ module _ (b : ℕ) where
 
   pub below_some : b ≤ 64 → 2 ^ b - 1 ≡ word_of (λ k. ltb k b) 64
   below_some h = omega (arith, below_ones b (omega arith), word_low (λ k. ltb k b) b 64 h (λ j p q. le-ltb j b p))
+
+  -- all bits moved down leave these
+  pub below_shr : (m : ℕ) → m ≡ min b 64 → 18446744073709551615 / 2 ^ (64 - m) ≡ word_of (λ k. ltb k b) 64
+  below_shr m e =
+      ⊎_elim
+      (λ (lt : b < 64). let z : 64 - (64 - m) ≡ b = omega arith in
+      ones_shr 64 (64 - m) (omega arith) ∙ ap (λ (x : ℕ). 2 ^ x - 1) z ∙ below_some (omega arith))
+      (λ (ge : 64 ≤ b). let z : 64 - (64 - m) ≡ 64 = omega arith in
+      ones_shr 64 (64 - m) (omega arith) ∙ ap (λ (x : ℕ). 2 ^ x - 1) z ∙ below_all ge)
+      (side b 64)
 
 -- ---- a word with the bits of a run set or not
 
@@ -90,18 +102,6 @@ from_upto low end k h =
     (λ lt. simp (lt-ltb k low lt, lt-ltb k end (omega arith), lt-leb low k lt))
     (λ ge. simp (le-ltb k low ge, le-leb low k ge))
     (side k low)
-
--- a word whose bits are all blocks of the run
-pub word_full : (from n i x : ℕ) (on : Bool) → from ≤ i * 64 → i * 64 + 64 ≤ from + n → cond on 18446744073709551615 0 ≡ word_of (λ k. cond (within from n (i * 64 + k)) on (bit_of x k)) 64
-unfolding word_of
-word_full from n i x on p q =
-    go on
-    ∙ word_ext (λ k. on) (λ k. cond (within from n (i * 64 + k)) on (bit_of x k)) 64
-    (λ k r. sym (ap (λ (y : Bool). cond y on (bit_of x k)) (within_in from n (i * 64 + k) (omega arith) (omega arith))))
-  where
-    go : (b : Bool) → cond b 18446744073709551615 0 ≡ word_of (λ k. b) 64
-    go true = omega (arith, word_ones (λ k. true) 64 (λ k r. refl))
-    go false = refl
 
 set_bit : (x y : Bool) → (x || y) ≡ cond y true x
 set_bit true true = refl

@@ -15,8 +15,8 @@ use crate::bytes::{REQUEST_BYTES, RESPONSE_BYTES};
 use crate::pins::any_pinned;
 use crate::plugs::plugged_size;
 use crate::request::{Request, RequestKind, Response, answer_bytes, request_of};
-use crate::table::{BLOCKS, BlockRun, all_set, none_set, with_run};
-use crate::words::{PINNED, PLUGGED, Sizes, sizes_of};
+use crate::table::{BLOCKS, BlockRun, TableWords, all_set, none_set, with_run};
+use crate::words::{DeviceWords, PINNED, PLUGGED, Sizes, sizes_of};
 
 // What a request may ask for: its kind, and its blocks.
 #[derive(Clone, Copy, Debug, PartialEq, Eq)]
@@ -72,8 +72,8 @@ fn asked_of(sizes: Sizes, request: Request) -> Option<Asked>
 }
 
 // PLUG: a block already plugged is an error, and more than requested is not taken.
-fn plug_answer(sizes: Sizes, plugged: &[u64], run: BlockRun) -> Response
-    requires { Sized sizes × (length plugged.now ≡ table_length) }
+fn plug_answer(sizes: Sizes, plugged: &TableWords, run: BlockRun) -> Response
+    requires { Sized sizes }
     ensures { result ≡ plug_answer Ack sizes plugged.now run.first.0 run.count }
 {
     if !none_set(plugged, run) {
@@ -87,8 +87,7 @@ fn plug_answer(sizes: Sizes, plugged: &[u64], run: BlockRun) -> Response
 }
 
 // UNPLUG: a block not plugged is an error, and a pinned one is busy.
-fn unplug_answer(held: bool, plugged: &[u64], run: BlockRun) -> Response
-    requires { length plugged.now ≡ table_length }
+fn unplug_answer(held: bool, plugged: &TableWords, run: BlockRun) -> Response
     ensures { result ≡ unplug_answer held plugged.now run.first.0 run.count }
 {
     if !all_set(plugged, run) {
@@ -105,8 +104,7 @@ fn unplug_all_answer(held: bool) -> Response
 }
 
 // STATE: all plugged, all unplugged, or mixed.
-fn state_answer(plugged: &[u64], run: BlockRun) -> Response
-    requires { length plugged.now ≡ table_length }
+fn state_answer(plugged: &TableWords, run: BlockRun) -> Response
     ensures { result ≡ state_answer plugged.now run.first.0 run.count }
 {
     if all_set(plugged, run) {
@@ -120,8 +118,8 @@ fn state_answer(plugged: &[u64], run: BlockRun) -> Response
 
 impl Asked {
     // The answer, by its kind.
-    fn answer(self, sizes: Sizes, held: bool, plugged: &[u64]) -> Response
-        requires { Sized sizes × (length plugged.now ≡ table_length) }
+    fn answer(self, sizes: Sizes, held: bool, plugged: &TableWords) -> Response
+        requires { Sized sizes }
         ensures { result ≡ asked_answer sizes held plugged.now self.kind self.run.first.0 self.run.count }
     {
         match self.kind {
@@ -139,7 +137,8 @@ impl Asked {
         ensures answer { result ≡ asked_answer sizes held plugged.old self.kind self.run.first.0 self.run.count }
         ensures table { plugged.new ≡ asked_table plugged.old self.kind self.run.first.0 self.run.count result }
     {
-        let response = self.answer(sizes, held, plugged);
+        let table: &TableWords = plugged.as_array().unwrap();
+        let response = self.answer(sizes, held, table);
         if response == Response::Ack {
             with_run(plugged, self.run, self.kind == RequestKind::Plug);
         }
@@ -148,8 +147,8 @@ impl Asked {
 }
 
 // A request answered and carried out where the device lies.
-pub fn respond(device: &mut [u64], bytes: [u8; REQUEST_BYTES]) -> [u8; RESPONSE_BYTES]
-    requires { (length device.old ≡ device_length) × Sized (sizes_of (device_of device.old)) }
+pub fn respond(device: &mut DeviceWords, bytes: [u8; REQUEST_BYTES]) -> [u8; RESPONSE_BYTES]
+    requires { Sized (sizes_of (device_of device.old)) }
     ensures { Responds device.old bytes result device.new }
 {
     let sizes = sizes_of(device);

@@ -7,19 +7,17 @@ ghost use Rattle.device_words.specs.Promises.{pin_words};
 
 use crate::block::BlockNumber;
 use crate::table::{BLOCKS, BlockRun, none_set, part_of, with_run};
-use crate::words::{DEVICE_WORDS, PINNED, PLUGGED};
+use crate::words::{DEVICE_WORDS, DeviceWords, PINNED, pin_table, plug_table};
 
 // Is one of a run's blocks pinned? One block is a run of 1, and all are 1,024.
-pub fn any_pinned(device: &[u64], run: BlockRun) -> bool
-    requires { length device.now ≡ device_length }
+pub fn any_pinned(device: &DeviceWords, run: BlockRun) -> bool
     ensures { result ≡ any_pinned (device_at device.now) run.first.0 run.count }
 {
-    !none_set(&device[PINNED..DEVICE_WORDS], run)
+    !none_set(pin_table(device), run)
 }
 
 // Is a block pinned? None is from 1,024 on.
-pub fn is_pinned(device: &[u64], b: BlockNumber) -> bool
-    requires { length device.now ≡ device_length }
+pub fn is_pinned(device: &DeviceWords, b: BlockNumber) -> bool
     ensures value { result ≡ is_pinned (device_at device.now) b.0 }
     ensures room { result ≡ true → b.0 < most_blocks }
 {
@@ -27,16 +25,15 @@ pub fn is_pinned(device: &[u64], b: BlockNumber) -> bool
 }
 
 // Is every pinned block plugged?
-pub fn pins_plugged(device: &[u64]) -> bool
-    requires { length device.now ≡ device_length }
+pub fn pins_plugged(device: &DeviceWords) -> bool
     ensures { result ≡ implies (is_pinned (device_at device.now)) (bit_at (device_at device.now).plugged) }
 {
-    part_of(&device[PINNED..DEVICE_WORDS], &device[PLUGGED..PINNED])
+    part_of(pin_table(device), plug_table(device))
 }
 
 // A block is pinned, or no longer.
-pub fn set_pin(device: &mut [u64], b: BlockNumber, on: bool)
-    requires { (length device.old ≡ device_length) × (b.0 < most_blocks) }
+pub fn set_pin(device: &mut DeviceWords, b: BlockNumber, on: bool)
+    requires { b.0 < most_blocks }
     ensures { device.new ≡ pin_words device.old b.0 on }
 {
     with_run(

@@ -1,13 +1,13 @@
 // SETUP's rules, and 27's for a device record.
-ghost use Rattle.std.specs.Prelude.{◌≡◌, ◌≤◌, ◌<◌, true, ◌&&◌, length};
+ghost use Rattle.std.specs.Prelude.{◌≡◌, ◌≤◌, ◌<◌, true, false, ◌&&◌, MatchOption};
 ghost use Rattle.device_words.specs.Device.{largest_block, block_ok, region_ok, addr_ok, sizes_ok, setup_ok, setup_kept, tables_ok, device_ok};
-ghost use Rattle.device_words.specs.Words.{is_device, device_at, device_of, device_length};
+ghost use Rattle.device_words.specs.Words.{is_device, device_at, device_of};
 
 use crate::pins::pins_plugged;
 use crate::plugs::blocks_in;
 use crate::table::{BLOCKS, only_below};
 use crate::words::{
-    ADDR, BLOCK_SIZE, DEVICE_WORDS, PINNED, PLUGGED, REGION_SIZE, REQUESTED_SIZE, USABLE_SIZE,
+    ADDR, BLOCK_SIZE, DeviceWords, REGION_SIZE, REQUESTED_SIZE, USABLE_SIZE, plug_table,
 };
 use map_records::map::GuestAddress;
 use map_records::numbers::{LIMIT, sum_within};
@@ -55,25 +55,37 @@ pub fn setup_ok(block: u64, addr: GuestAddress, region: u64, usable: u64, reques
 
 // 27's rules over the two tables: what is plugged lies in the usable part, and what is pinned is
 // plugged. That both lie in the region follows.
-fn tables_ok(device: &[u64]) -> bool
-    requires { (length device.now ≡ device_length) × (setup_kept (device_at device.now) ≡ true) }
+fn tables_ok(device: &DeviceWords) -> bool
+    requires { setup_kept (device_at device.now) ≡ true }
     ensures { result ≡ tables_ok (device_at device.now) }
 {
     let blocks = blocks_in(device, device[USABLE_SIZE]);
-    only_below(&device[PLUGGED..PINNED], blocks) & pins_plugged(device)
+    only_below(plug_table(device), blocks) & pins_plugged(device)
 }
 
-// Do the words of a device keep their rules? Those of another number do not.
-pub fn device_ok(device: &[u64]) -> bool
-    ensures { result ≡ (is_device device.now && device_ok (device_of device.now)) }
+// Do the words of a device keep their rules?
+pub fn device_ok(device: &DeviceWords) -> bool
+    ensures { result ≡ device_ok (device_of device.now) }
 {
-    device.len() == DEVICE_WORDS
-        && setup_ok(
-            device[BLOCK_SIZE],
-            GuestAddress(device[ADDR]),
-            device[REGION_SIZE],
-            device[USABLE_SIZE],
-            device[REQUESTED_SIZE],
-        )
-        && tables_ok(device)
+    setup_ok(
+        device[BLOCK_SIZE],
+        GuestAddress(device[ADDR]),
+        device[REGION_SIZE],
+        device[USABLE_SIZE],
+        device[REQUESTED_SIZE],
+    ) && tables_ok(device)
+}
+
+// The words of a device that keeps its rules. Words of another number are a record of zeros, which breaks them.
+pub fn valid(words: &[u64]) -> Option<&DeviceWords>
+    ensures { MatchOption result (device_ok (device_of words.now) ≡ false)
+        (λ device. (device.now ≡ words.now) × (device_ok (device_of words.now) ≡ true)) }
+{
+    let Some(device) = words.as_array() else {
+        return None;
+    };
+    if !device_ok(device) {
+        return None;
+    }
+    Some(device)
 }

@@ -1,5 +1,5 @@
 // A table of 1,024 blocks in sixteen lent words, and runs of its blocks.
-ghost use Rattle.std.specs.Prelude.{◌≡◌, cond, ◌&&◌, ◌+◌, ◌*◌, ◌/◌, ◌≤◌, eqb, leb, ltb, length, replicate};
+ghost use Rattle.std.specs.Prelude.{◌≡◌, cond, ◌&&◌, ◌+◌, ◌*◌, ◌/◌, ◌≤◌, ◌<◌, eqb, leb, ltb, length, replicate};
 ghost use Rattle.device_words.specs.Table.{bit_of, bit_at, word_of, turned, within, held_in, bits_in, set_in, most_blocks, table_length};
 ghost use Rattle.device_words.specs.Promises.{only_below, part_of};
 
@@ -19,33 +19,23 @@ pub const BLOCKS: usize = 1024;
 
 pub const TABLE_WORDS: usize = 16;
 
+pub type TableWords = [u64; TABLE_WORDS];
+
 // Is block b set? None is from 1,024 on.
-pub fn is_in(words: &[u64], block: BlockNumber) -> bool
-    requires { length words.now ≡ table_length }
+pub fn is_in(words: &TableWords, block: BlockNumber) -> bool
     ensures { result ≡ bit_at words.now block.0 }
 {
     let b = usize::from(block.0);
     b < BLOCKS && (words[b / 64] >> (b % 64) as u64) % 2 == 1
 }
 
-// The bits of a word below bit b.
-fn bits_below(b: usize) -> u64
-    ensures { result ≡ word_of (λ k. ltb k b) 64 }
-{
-    if 64 <= b {
-        u64::MAX
-    } else {
-        (1 << (b as u64)) - 1
-    }
-}
-
 // A word, with its bits from `low` on and below `end` set or not.
 fn word_with(word: u64, low: usize, end: usize, on: bool) -> u64
-    requires { low ≤ end }
+    requires { (low < 64) × (0 < end) × (low ≤ end) }
     ensures { result ≡ word_of (λ k. cond (leb low k && ltb k end) on (bit_of word k)) 64 }
 {
-    let upto = bits_below(end);
-    let before = bits_below(low);
+    let upto = u64::MAX >> (64 - end.min(64)) as u64;
+    let before = (1 << low as u64) - 1;
     let run = upto ^ before;
     let set = word | run;
     if on { set } else { set ^ run }
@@ -61,18 +51,19 @@ impl BlockRun {
         first / 64..(first + self.count + 63) / 64
     }
 
-    // Word i of a table, where the run's blocks in it are set or not. The run does not end before the word.
+    // Word i of a table, where the run's blocks in it are set or not. Some are.
     fn turned(self, i: usize, word: u64, on: bool) -> u64
-        requires { i * 64 ≤ self.first.0 + self.count }
+        requires { (self.first.0 / 64 ≤ i) × (i * 64 < self.first.0 + self.count) }
         ensures { result ≡ word_of (λ k. cond (within self.first.0 self.count (i * 64 + k)) on (bit_of word k)) 64 }
     {
         let before = i * 64;
         let first = usize::from(self.first.0);
-        let end = first + self.count - before;
-        if first <= before && 64 <= end {
-            return if on { u64::MAX } else { 0 };
-        }
-        word_with(word, first.saturating_sub(before), end, on)
+        word_with(
+            word,
+            first.saturating_sub(before),
+            first + self.count - before,
+            on,
+        )
     }
 }
 
@@ -96,24 +87,21 @@ pub fn clear(words: &mut [u64])
 }
 
 // Are the blocks of a run all set, or all not set? Then turning them so changes no word.
-fn run_is(words: &[u64], run: BlockRun, on: bool) -> bool
-    requires { length words.now ≡ table_length }
+fn run_is(words: &TableWords, run: BlockRun, on: bool) -> bool
     ensures { result ≡ eqb (held_in words.now run.first.0 run.count) (cond on run.count 0) }
 {
     run.words().all(|i| run.turned(i, words[i], on) == words[i])
 }
 
 // Is none of the blocks of a run set?
-pub fn none_set(words: &[u64], run: BlockRun) -> bool
-    requires { length words.now ≡ table_length }
+pub fn none_set(words: &TableWords, run: BlockRun) -> bool
     ensures { result ≡ eqb (held_in words.now run.first.0 run.count) 0 }
 {
     run_is(words, run, false)
 }
 
 // Is each of the blocks of a run set?
-pub fn all_set(words: &[u64], run: BlockRun) -> bool
-    requires { length words.now ≡ table_length }
+pub fn all_set(words: &TableWords, run: BlockRun) -> bool
     ensures { result ≡ eqb (held_in words.now run.first.0 run.count) run.count }
 {
     run_is(words, run, true)
@@ -130,8 +118,7 @@ fn ones(word: u64) -> u64
 
 // How many blocks are set. Block b is bit b % 64 of word b / 64: each of the 1,024 blocks is one bit of one of the
 // sixteen words, so the ones of all words together count every set block, and none twice (`set_held`, likewise).
-pub fn total(words: &[u64]) -> u64
-    requires { length words.now ≡ table_length }
+pub fn total(words: &TableWords) -> u64
     ensures { (result ≡ set_in words.now table_length) × (result ≤ most_blocks) }
 {
     words.iter().map(|word| ones(*word)).sum()
@@ -139,8 +126,8 @@ pub fn total(words: &[u64]) -> u64
 
 // Is every block that is set below n? The words before that of block n have none but such; of that word the bits from
 // n's on must be off, and of each one after it all.
-pub fn only_below(words: &[u64], n: usize) -> bool
-    requires { (length words.now ≡ table_length) × (n ≤ most_blocks) }
+pub fn only_below(words: &TableWords, n: usize) -> bool
+    requires { n ≤ most_blocks }
     ensures { result ≡ only_below words.now n }
 {
     let low = (n % 64) as u64;
@@ -151,8 +138,7 @@ pub fn only_below(words: &[u64], n: usize) -> bool
 }
 
 // Is every block that is set also set in the other table?
-pub fn part_of(words: &[u64], whole: &[u64]) -> bool
-    requires { (length words.now ≡ table_length) × (length whole.now ≡ table_length) }
+pub fn part_of(words: &TableWords, whole: &TableWords) -> bool
     ensures { result ≡ part_of words.now whole.now }
 {
     words

@@ -3,6 +3,7 @@ ghost use Rattle.std.specs.Prelude.{◌≡◌, length};
 ghost use Rattle.device_words.specs.Words.{device_at, device_of, device_length};
 ghost use Rattle.device_words.specs.Device.{sizes_of};
 
+use crate::table::TableWords;
 use map_records::map::GuestAddress;
 
 pub const BLOCK_SIZE: usize = 0;
@@ -22,6 +23,8 @@ pub const PINNED: usize = 21;
 
 pub const DEVICE_WORDS: usize = 37;
 
+pub type DeviceWords = [u64; DEVICE_WORDS];
+
 // The sizes and the address by which requests are answered.
 #[derive(Clone, Copy, Debug, PartialEq, Eq)]
 pub struct Sizes {
@@ -31,8 +34,7 @@ pub struct Sizes {
     pub requested_size: u64,
 }
 
-pub fn sizes_of(device: &[u64]) -> Sizes
-    requires { length device.now ≡ device_length }
+pub fn sizes_of(device: &DeviceWords) -> Sizes
     ensures { result ≡ sizes_of (device_at device.now) }
 {
     Sizes {
@@ -43,23 +45,33 @@ pub fn sizes_of(device: &[u64]) -> Sizes
     }
 }
 
-pub fn block_size(device: &[u64]) -> u64
-    requires { length device.now ≡ device_length }
+pub fn block_size(device: &DeviceWords) -> u64
     ensures { result ≡ (device_of device.now).block_size }
 {
     device[BLOCK_SIZE]
 }
 
-pub fn region_size(device: &[u64]) -> u64
-    requires { length device.now ≡ device_length }
+pub fn region_size(device: &DeviceWords) -> u64
     ensures { result ≡ (device_of device.now).region_size }
 {
     device[REGION_SIZE]
 }
 
-pub fn plugged(device: &[u64]) -> &[u64]
-    requires { length device.now ≡ device_length }
+// The words of the plug table, and of the pins.
+pub fn plug_table(device: &DeviceWords) -> &TableWords
+    ensures { result.now ≡ (device_at device.now).plugged }
+{
+    device[PLUGGED..PINNED].as_array().unwrap()
+}
+
+pub fn pin_table(device: &DeviceWords) -> &TableWords
+    ensures { result.now ≡ (device_at device.now).pinned }
+{
+    device[PINNED..DEVICE_WORDS].as_array().unwrap()
+}
+
+pub fn plugged(device: &DeviceWords) -> &TableWords
     ensures { result.now ≡ (device_of device.now).plugged }
 {
-    &device[PLUGGED..PINNED]
+    plug_table(device)
 }

@@ -1,7 +1,7 @@
 -- Laws of the drawing: where addresses lie to a region, and the text, character by character and row by row. Assumes nothing.
 use mathlib.Core.Path.{◌≡◌, refl, sym, ap, ◌∙◌}
 use mathlib.Core.Bool.{Bool, true, false, cond}
-use mathlib.Core.List.{List, [], ◌∷◌, ◌++◌}
+use mathlib.Core.List.{[], ◌∷◌, ◌++◌}
 use mathlib.Core.Logic.{⊎_elim}
 use Prim.Native.Nat.{ℕ, zero, suc, ◌+◌, ◌-◌, ◌*◌, ◌^◌, ◌≤◌, ◌<◌, min}
 use native.Mathlib.Nat.{mul-le-mul}
@@ -20,20 +20,18 @@ use Rattle.map_check.specs.declared.check.MapFault.{MapFault}
 use Rattle.map_records.specs.declared.map.Found.{Found}
 use Rattle.map_records.specs.declared.map.Region.{Region}
 use Rattle.map_records.specs.declared.map.RegionMap.{RegionMap}
-use Rattle.map_records.specs.Words.{map_of}
 use Rattle.map_check.proofs.Accepted.{accepted_sound}
-use Rattle.map_check.proofs.MapWords.{accepted_words}
 use Rattle.map_records.proofs.Order.{eq_or_not}
 use Rattle.drawing.specs.Drawing.{row_at, RowIn, column_address, region_cell, character, characters, row_text, rows_text}
 use Rattle.drawing.specs.declared.row.Row.{Row}
 use Rattle.drawing.specs.declared.row.Row.TheVariants as row
-use Rattle.drawing.specs.Position.{entered, below, climb, located, Climbable, Drawable}
+use Rattle.drawing.specs.Position.{entered, below, climb, located, Climbable}
 use Rattle.map_records.specs.declared.map.RegionOffset.{RegionOffset}
 use Rattle.drawing.specs.declared.position.Position.{Position}
 use Rattle.drawing.specs.declared.position.Position.TheVariants.{Aside, Outside, Inside}
 
 -- what acceptance gives
-accepted_climbable : (m : RegionMap) (memory : ℕ) → Accepted m memory → Climbable m
+pub accepted_climbable : (m : RegionMap) (memory : ℕ) → Accepted m memory → Climbable m
 accepted_climbable m memory ok =
     let s = accepted_sound m memory ok in
     let root : m.count - 1 < m.count = omega (arith, s.some) in
@@ -44,9 +42,6 @@ accepted_climbable m memory ok =
       above = λ n h p. (s.parents n h p).above;
       below = λ n h p. (s.parents n h p).below;
     }
-
-pub accepted_drawable : (w : List ℕ) (memory : ℕ) → Accepted (map_of w) memory → Drawable w
-accepted_drawable w memory ok = record { words = accepted_words w memory ok; climbable = accepted_climbable (map_of w) memory ok }
 
 -- a region entered, and not
 module _ (r : Region) (first end from to : ℕ) (p : from ≡ first - r.offset) (q : to ≡ min (end - r.offset) r.size) where

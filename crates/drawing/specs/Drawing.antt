@@ -1,16 +1,14 @@
 -- The drawing of a map, character by character, after source 001's: the address line, a row for each region from the root down, and the flat view below. Assumes nothing: these are definitions.
 use Rattle.std.specs.Prelude.{Option, Some, None, cond, ◌||◌, List, [], ◌∷◌, ◌++◌, ℕ, zero, suc, ◌+◌, ◌-◌, ◌*◌, ◌/◌, ◌%◌, ◌<◌, eqb, ltb, get_or}
 use Rattle.listing.specs.Text.{hex_text, refused_text}
-use Rattle.map_records.specs.Words.{map_of}
 use Rattle.map_records.specs.Map.{container, ram, mmio, alias, managed, has_memory, region}
 use Rattle.map_check.specs.Reply.{if_accepted}
-use Rattle.map_check.specs.Check.{Accepted}
 use Rattle.region_map.specs.Walk.{walk_root}
 use Rattle.region_map.specs.Flatten.{root_size}
 use Rattle.map_records.specs.declared.map.RegionMap.{RegionMap}
 use Rattle.map_records.specs.declared.map.Found.{Found}
 use Rattle.sheet.specs.Sheet.{SheetOutcome, read_sheet}
-use Rattle.drawing.specs.Position.{located, Drawable}
+use Rattle.drawing.specs.Position.{located}
 use Rattle.drawing.specs.declared.position.Position.{Position}
 use Rattle.drawing.specs.declared.position.Position.TheVariants.{Aside, Outside, Inside}
 use Rattle.drawing.specs.declared.row.Row.{Row}
@@ -154,9 +152,3 @@ sheet_drawing o = if_accepted o.reply refused_text (map_drawing o.map)
 
 unfoldable pub drawing_text : List ℕ → ℕ → List ℕ
 drawing_text s memory = sheet_drawing (read_sheet s memory)
-
--- What the functions that draw promise each other: words of an accepted map, and a row of its drawing.
-pub record DrawnRow (w : List ℕ) (memory : ℕ) (row : Row) : Type 0 where
-  pub drawable : Drawable w
-  pub accepted : Accepted (map_of w) memory
-  pub within : RowIn (map_of w) row

@@ -1,10 +1,9 @@
 -- Where guest addresses lie to a region, by the offsets of the regions above it. Assumes nothing: these are definitions.
-use Rattle.std.specs.Prelude.{◌≡◌, cond, List, ℕ, zero, suc, ◌+◌, ◌-◌, ◌≤◌, ◌<◌, min, eqb, ltb, length}
+use Rattle.std.specs.Prelude.{◌≡◌, cond, ℕ, zero, suc, ◌+◌, ◌-◌, ◌≤◌, ◌<◌, min, eqb, ltb}
 use Rattle.map_records.specs.Map.{region}
-use Rattle.map_records.specs.Words.{map_of}
 use Rattle.map_check.specs.Fault.{parent_of}
 use Rattle.region_map.specs.Flatten.{root_size}
-use Rattle.map_records.specs.Limits.{limit, most_regions, map_length}
+use Rattle.map_records.specs.Limits.{limit, most_regions}
 use Rattle.map_records.specs.declared.map.Region.{Region}
 use Rattle.map_records.specs.declared.map.RegionMap.{RegionMap}
 use Rattle.drawing.specs.declared.position.Position.{Position}
@@ -42,8 +41,3 @@ pub record Climbable (m : RegionMap) : Type 0 where
   pub size : root_size m ≤ limit
   pub above : (n : ℕ) → n < m.count → ((region m n).parent ≡ 0 → ⊥) → n < parent_of (region m n)
   pub below : (n : ℕ) → n < m.count → ((region m n).parent ≡ 0 → ⊥) → parent_of (region m n) < m.count
-
--- words of a map that can be drawn
-pub record Drawable (w : List ℕ) : Type 0 where
-  pub words : length w ≡ map_length
-  pub climbable : Climbable (map_of w)

@@ -1,20 +1,18 @@
 // The cells of the rows: what a row shows in a column.
-ghost use Rattle.std.specs.Prelude.{◌≡◌, ◌≤◌, ◌<◌, ◌^◌, length};
+ghost use Rattle.std.specs.Prelude.{◌≡◌, ◌≤◌, ◌<◌, ◌^◌};
 ghost use Rattle.map_records.specs.Words.{map_of};
 ghost use Rattle.region_map.specs.Walk.{walk_root};
-ghost use Rattle.map_check.specs.Check.{Accepted};
-ghost use Rattle.drawing.specs.Position.{located, Drawable};
+ghost use Rattle.drawing.specs.Position.{located};
 ghost use Rattle.drawing.specs.Drawing.{column_address, address_cell, ruler_cell, fill as fill_of};
-ghost use Rattle.drawing.specs.Drawing.{later_cell, region_cell, answer_cell, cell as cell_of, DrawnRow};
-ghost use Rattle.map_records.specs.Limits.{map_length, limit, most_regions};
+ghost use Rattle.drawing.specs.Drawing.{later_cell, region_cell, answer_cell, cell as cell_of, RowIn};
+ghost use Rattle.map_records.specs.Limits.{limit};
 
 use crate::label::{digit, letter};
+use crate::map::DrawnMap;
 use crate::position::{Position, locate};
 use crate::row::Row;
 use map_records::kind::Kind;
 use map_records::map::GuestAddress;
-use map_records::words::{region_at, region_count};
-use region_map::resolve::resolve_address;
 
 // The guest address that column c stands for in a root of so many bytes.
 fn column_address(size: u64, c: usize) -> GuestAddress
@@ -43,11 +41,11 @@ fn ruler_cell(c: usize) -> u8
 
 // What a region's row is filled with.
 #[tactic(auto, unfolding(crate::specs::Drawing::fill))]
-fn fill(map: &[u64], n: usize) -> u8
-    requires { (length map.now ≡ map_length) × (n < most_regions) }
+fn fill(map: &DrawnMap, n: usize) -> u8
+    requires { n < (map_of map.now).count }
     ensures { result ≡ fill_of (map_of map.now) n }
 {
-    match Kind::try_from(region_at(map, n).kind) {
+    match Kind::try_from(map.region(n).kind) {
         Ok(Kind::Container) => b'-',
         Ok(Kind::Alias) => b'=',
         Ok(Kind::Ram | Kind::Mmio | Kind::Managed) => digit(n),
@@ -56,8 +54,8 @@ fn fill(map: &[u64], n: usize) -> u8
 }
 
 // A column whose own address lies outside the region.
-fn later_cell(map: &[u64], n: usize, first: GuestAddress, next: GuestAddress) -> u8
-    requires { Drawable map.now × (n < (map_of map.now).count) }
+fn later_cell(map: &DrawnMap, n: usize, first: GuestAddress, next: GuestAddress) -> u8
+    requires { n < (map_of map.now).count }
     ensures { result ≡ later_cell (located (map_of map.now) n first.0 next.0) }
 {
     match locate(map, n, first, next) {
@@ -66,8 +64,8 @@ fn later_cell(map: &[u64], n: usize, first: GuestAddress, next: GuestAddress) ->
     }
 }
 
-fn region_cell(map: &[u64], n: usize, first: GuestAddress, next: GuestAddress, c: usize) -> u8
-    requires { Drawable map.now × (n < (map_of map.now).count) × (first.0 ≤ limit) }
+fn region_cell(map: &DrawnMap, n: usize, first: GuestAddress, next: GuestAddress, c: usize) -> u8
+    requires { (n < (map_of map.now).count) × (first.0 ≤ limit) }
     ensures { result ≡ region_cell (map_of map.now) n first.0 next.0 c }
 {
     match locate(map, n, first, GuestAddress(first.0 + 1)) {
@@ -78,28 +76,27 @@ fn region_cell(map: &[u64], n: usize, first: GuestAddress, next: GuestAddress, c
 }
 
 // The region that an address leads to.
-fn answer_cell(map: &[u64], memory_length: u64, address: GuestAddress) -> u8
-    requires { Accepted (map_of map.now) memory_length }
+fn answer_cell(map: &DrawnMap, address: GuestAddress) -> u8
     ensures { result ≡ answer_cell (walk_root (map_of map.now) address.0) }
 {
-    match resolve_address(map, memory_length, address).unwrap() {
+    match map.found(address) {
         Some(found) => digit(found.region),
         None => b'.',
     }
 }
 
 // Column c of a row.
-pub fn cell(map: &[u64], memory_length: u64, row: Row, c: usize) -> u8
-    requires { DrawnRow map.now memory_length row × (c < 64) }
+pub fn cell(map: &DrawnMap, row: Row, c: usize) -> u8
+    requires { RowIn (map_of map.now) row × (c < 64) }
     ensures { result ≡ cell_of (map_of map.now) row c }
 {
-    let size = region_at(map, region_count(map) - 1).size;
+    let size = map.region(map.count() - 1).size;
     let address = column_address(size, c);
     let next = column_address(size, c + 1);
     match row {
         Row::Addresses => address_cell(size, c),
         Row::Ruler => ruler_cell(c),
         Row::Region(n) => region_cell(map, n, address, next, c),
-        Row::FlatView => answer_cell(map, memory_length, address),
+        Row::FlatView => answer_cell(map, address),
     }
 }

@@ -1,14 +1,12 @@
 // The labels of the rows.
-ghost use Rattle.std.specs.Prelude.{◌≡◌, ◌<◌, length};
+ghost use Rattle.std.specs.Prelude.{◌≡◌, ◌<◌};
 ghost use Rattle.map_records.specs.Map.{kind_number};
 ghost use Rattle.map_records.specs.Words.{map_of};
-ghost use Rattle.drawing.specs.Position.{Drawable};
 ghost use Rattle.drawing.specs.Drawing.{digit_of, letter_of, kind_text, region_label, label as label_of, RowIn};
-ghost use Rattle.map_records.specs.Limits.{map_length, most_regions};
 
+use crate::map::DrawnMap;
 use crate::row::Row;
 use map_records::kind::Kind;
-use map_records::words::region_at;
 
 // A region's number as one character.
 pub fn digit(n: usize) -> u8
@@ -55,20 +53,20 @@ fn kind_letter(kind: u64, i: usize) -> u8
 
 // Character k of the label of region n: its number, then its kind.
 #[tactic(auto, unfolding(crate::specs::Drawing::region_label))]
-fn region_label(map: &[u64], n: usize, k: usize) -> u8
-    requires { (length map.now ≡ map_length) × (n < most_regions) }
+fn region_label(map: &DrawnMap, n: usize, k: usize) -> u8
+    requires { n < (map_of map.now).count }
     ensures { result ≡ region_label (map_of map.now) n k }
 {
     match k {
         1 => digit(n),
         0..=2 => b' ',
-        _ => kind_letter(region_at(map, n).kind, k - 3),
+        _ => kind_letter(map.region(n).kind, k - 3),
     }
 }
 
 // Character k of a row's label.
-pub fn label(map: &[u64], row: Row, k: usize) -> u8
-    requires { Drawable map.now × RowIn (map_of map.now) row }
+pub fn label(map: &DrawnMap, row: Row, k: usize) -> u8
+    requires { RowIn (map_of map.now) row }
     ensures { result ≡ label_of (map_of map.now) row k }
 {
     match row {

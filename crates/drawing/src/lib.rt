@@ -4,5 +4,6 @@
 mod cell;
 pub mod drawing;
 mod label;
+mod map;
 mod position;
 mod row;

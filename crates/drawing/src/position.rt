@@ -1,10 +1,10 @@
 // Where guest addresses lie to a region, by the offsets of the regions above it.
 ghost use Rattle.std.specs.Prelude.{◌≡◌, ◌<◌};
 ghost use Rattle.map_records.specs.Words.{map_of};
-ghost use Rattle.drawing.specs.Position.{entered, located, Drawable};
+ghost use Rattle.drawing.specs.Position.{entered, located};
 
+use crate::map::DrawnMap;
 use map_records::map::{GuestAddress, Region, RegionOffset};
-use map_records::words::{region_at, region_count};
 use region_map::resolve::root_offset;
 
 // Inside the region from an offset up to another; outside it or a region above it; or the region is
@@ -30,13 +30,13 @@ fn enter(region: Region, first: RegionOffset, end: RegionOffset) -> Position
 }
 
 // Guest addresses are offsets of the root, and each region above n is entered before n.
-pub fn locate(map: &[u64], n: usize, first: GuestAddress, end: GuestAddress) -> Position
-    requires { Drawable map.now × (n < (map_of map.now).count) }
+pub fn locate(map: &DrawnMap, n: usize, first: GuestAddress, end: GuestAddress) -> Position
+    requires { n < (map_of map.now).count }
     ensures { result ≡ located (map_of map.now) n first.0 end.0 }
 {
-    let region = region_at(map, n);
+    let region = map.region(n);
     let Some(parent) = region.parent.checked_sub(1) else {
-        if n + 1 == region_count(map) {
+        if n + 1 == map.count() {
             return enter(region, root_offset(first), root_offset(end));
         }
         return Position::Aside;

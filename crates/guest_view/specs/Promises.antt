@@ -3,7 +3,6 @@ use Rattle.std.specs.Prelude.{◌≡◌, Bool, true, false, List, map, Option, N
 use Rattle.map_records.specs.Map.{has_memory}
 use Rattle.map_records.specs.View.{entries, range_of, last_offset}
 use Rattle.map_records.specs.Limits.{limit, most_regions, most_ranges, view_length}
-use Rattle.device_words.specs.Table.{table_length}
 use Rattle.map_records.specs.declared.view.FlatView.{FlatView}
 use Rattle.guest_view.specs.Guest.{Leaf, nowhere, leaf, leaf_in, leaf_at, reach_kind, place_leaf, view_guest, addresses, byte_at, number_at}
 use Rattle.guest_view.specs.View.{agree}
@@ -65,10 +64,7 @@ Makes {F} {T} pre post f g = (p : ℕ) (x : T) → pre f p → post f p x → x 
 pub record Runs (v : FlatView) (a place left : ℕ) : Type 0 where
   pub each : (i : ℕ) → i ≤ left → place_in v (a + i) ≡ place + i
 
--- a block size and a plug table that can be asked, and the addresses that they and a view's words make reachable
-abbrev pub Table : ℕ → List ℕ → Type 0
-Table block plugged = (0 < block) × (length plugged ≡ table_length)
-
+-- the addresses that a view's words, a block size and a plug table make reachable
 abbrev pub reach_in : List ℕ → ℕ → List ℕ → ℕ → Bool
 reach_in view block plugged = (view_guest (view_of view) block plugged).reach
 

@@ -7,3 +7,4 @@ pub mod memory;
 pub mod place;
 pub mod reach;
 pub mod rules;
+pub mod view;

@@ -1,17 +1,17 @@
 // 27 for a given flat view.
-ghost use Rattle.std.specs.Prelude.{◌≡◌, ◌&&◌, ◌<◌, length};
+ghost use Rattle.std.specs.Prelude.{◌≡◌, ◌&&◌, ◌<◌};
 ghost use Rattle.map_records.specs.View.{range_of, last_offset};
 ghost use Rattle.map_records.specs.Words.{view_of};
 ghost use Rattle.guest_view.specs.View.{kind_ok, memory_ok, managed_ok, range_ok, pairs_ok, view_ok};
 ghost use Rattle.guest_view.specs.Promises.{Owner, Ascends};
-ghost use Rattle.map_records.specs.Limits.{view_length, limit, most_ranges};
+ghost use Rattle.map_records.specs.Limits.{limit, most_ranges};
 
 use crate::place::offset_in;
 use map_records::kind::Kind;
 use map_records::map::REGIONS;
 use map_records::numbers::{LIMIT, sum_within};
 use map_records::view::{FlatRange, RANGES};
-use map_records::words::{VIEW_WORDS, count_of, range_at};
+use map_records::words::{ViewWords, count_of, range_at};
 
 // The kind of a range, whose last offset is `there`, and where its bytes lie.
 fn backing_ok(range: FlatRange, there: u64, memory: u64, region: u64) -> bool
@@ -54,8 +54,7 @@ fn range_ok(range: FlatRange, memory: u64, region: u64) -> bool
 
 // Range k with those before it, of which the last and the first of its region stand for all: `first` is 1 + that one's
 // number, or 0 where there is none.
-fn pairs_ok(view: &[u64], range: FlatRange, first: usize, k: usize) -> bool
-    requires view_len { length view.now ≡ view_length }
+fn pairs_ok(view: &ViewWords, range: FlatRange, first: usize, k: usize) -> bool
     requires k_lt_most_ranges { (k < most_ranges) × (range ≡ range_of (view_of view.now) k) }
     requires owner { Owner (view_of view.now) k range.region first × Ascends (view_of view.now) k }
     ensures { result ≡ pairs_ok (view_of view.now) k }
@@ -75,17 +74,16 @@ fn pairs_ok(view: &[u64], range: FlatRange, first: usize, k: usize) -> bool
 }
 
 // Does a given view keep 27's rules, over a memory and a managed region of these lengths?
-pub fn view_ok(view: &[u64], memory: u64, region: u64) -> bool
+pub fn view_ok(view: &ViewWords, memory: u64, region: u64) -> bool
     ensures { result ≡ view_ok (view_of view.now) memory region }
 {
-    if view.len() != VIEW_WORDS {
-        return false;
-    }
     let count = count_of(view);
     if RANGES < count {
         return false;
     }
+    // Of each region 1 + the number of its first range, 0 for none: an Option for each would be twice the bytes to clear.
     let mut owner = [0usize; REGIONS];
+    // By number, since ranges lie as words.
     for k in 0..count {
         let range = range_at(view, k);
         if !range_ok(range, memory, region) {

@@ -12,6 +12,7 @@ pub fn read_full<R: Read>(input: &mut R, buffer: &mut [u8]) -> io::Result<usize>
     ensures bytes { IfOk result (λ n. Consumes (R.remaining input.old) (R.remaining input.new) (take n buffer.new)) }
     ensures end { IfOk result (λ n. n < length buffer.new → IsAtEnd (R.remaining input.new)) }
 {
+    // A read gives some bytes, and says how many only then.
     let mut done: usize = 0;
     while done < buffer.len() {
         let n = input.read(&mut buffer[done..])?;

@@ -12,7 +12,7 @@ use crate::text::{push_decimal, push_hex};
 use arrayvec::ArrayVec;
 use map_check::answer::Fault;
 use map_records::view::FlatRange;
-use map_records::words::{MAP_WORDS, VIEW_WORDS, count_of, range_at};
+use map_records::words::{MAP_WORDS, VIEW_WORDS, ViewWords, count_of, range_at};
 use region_map::view::flatten;
 use sheet::reading::read_sheet;
 
@@ -56,8 +56,8 @@ fn push_range(text: &mut ArrayVec<u8, LISTING>, range: FlatRange)
 }
 
 // The lines of a view's ranges.
-fn push_ranges(view: &[u64], text: &mut ArrayVec<u8, LISTING>)
-    requires { (length view.now ≡ view_length) × ((view_of view.now).count ≤ most_ranges) × (text.old.items ≡ []) }
+fn push_ranges(view: &ViewWords, text: &mut ArrayVec<u8, LISTING>)
+    requires { ((view_of view.now).count ≤ most_ranges) × (text.old.items ≡ []) }
     ensures { text.new.items ≡ ranges_text (entries (view_of view.now)) }
 {
     // By number, since only `map_records` knows how ranges lie in a view's words.

@@ -54,10 +54,10 @@ fault_form P x (fault.Port i j) = x 9 i j
 fault_form P x (fault.Overlap i j) = x 10 i j
 
 -- the check accepts, or gives a number above 0 with two nodes: what holds of both holds of its answer
-pub reply_form : (P : Reply → Type 0) → P accepted → ((k i j : ℕ) → P (nodes (suc k) i j)) → (a : Result Unit MapFault) → P (reply a)
+pub reply_form : (P : Reply → Type 0) → P accepted → ((k i j : ℕ) → P (nodes (suc k) i j)) → {A : Type 0} (a : Result A MapFault) → P (reply a)
 reply_form P x f (Ok _) = x
 reply_form P x f (Err e) = fault_form P f e
 
 -- a number is 0 where nothing is refused, and only there
-pub map_zero : (a : Result Unit MapFault) → eqb (number_of (reply a)) 0 ≡ passes (reply a)
+pub map_zero : {A : Type 0} (a : Result A MapFault) → eqb (number_of (reply a)) 0 ≡ passes (reply a)
 map_zero = reply_form (λ r. eqb (number_of r) 0 ≡ passes r) refl (λ k i j. ne_eqb (suc k) 0 (λ (e : suc k ≡ 0). omega arith))

@@ -1,7 +1,6 @@
 -- What the two searches find, and the check as its parts. Assumes nothing.
-use mathlib.Core.Logic.{◌⊎◌, ⊎_elim}
 use mathlib.Core.Path.{◌≡◌, refl, sym, ap, ◌∙◌}
-use borrow.Author.Tests.{ne_eqb, lt-ltb, le-ltb}
+use borrow.Author.Tests.{ne_eqb, le-ltb}
 use mathlib.Core.Bool.{Bool, true, false}
 use native.Mathlib.Omega.{arith}
 use Rattle.std.proofs.Common.{Option, Some, None, ◌≤◌, ◌<◌}
@@ -41,19 +40,16 @@ module _ (m : RegionMap) (rule : Region → Region → Bool) {answers : Region �
   pair_passed none = λ k. pair_none (pairs m rule) k m.count (λ i p j q r. sym (tests _ _ false (none i (omega arith) j (omega arith) r)))
 
 module _ (m : RegionMap) (memory : ℕ) where
-  pub judged_count : (n : ℕ) → n ≡ m.count → (n ≡ 0) ⊎ ((n ≡ 0 → ⊥) × (32 < n)) → nodes 3 0 0 ≡ judged m memory
+  pub judged_count : count_fault m.count ≡ true → nodes 3 0 0 ≡ judged m memory
   unfolding judged_by
-  judged_count n same h = rw (← same, wrong n h)
-    where
-      wrong : (n : ℕ) → (n ≡ 0) ⊎ ((n ≡ 0 → ⊥) × (32 < n)) → count_fault n ≡ true
-      wrong n h = ⊎_elim (λ z. rw z) (λ p. rw (ne_eqb n 0 p.0, lt-ltb 32 n p.1)) h
+  judged_count wrong = rw wrong
 
   -- of a count that a map can have
-  module _ (n : ℕ) (same : n ≡ m.count) (some : n ≡ 0 → ⊥) (few : n ≤ 32) where
+  module _ (some : m.count ≡ 0 → ⊥) (few : m.count ≤ 32) where
     judged_parts : judged m memory ≡ (on_regions m memory then on_pairs m)
     unfolding judged_by on_regions on_pairs
     judged_parts =
-        rw (← same, ne_eqb n 0 some, le-ltb 32 n few, same)
+        rw (ne_eqb m.count 0 some, le-ltb 32 m.count few)
         (then_four (on_regions m memory) (first_pair 8 (λ i j. memory_clash (region m i) (region m j)) m.count)
         (first_pair 9 (λ i j. managed_clash (region m i) (region m j)) m.count)
         (first_pair 10 (λ i j. port_clash (region m i) (region m j)) m.count)
@@ -67,3 +63,6 @@ module _ (m : RegionMap) (memory : ℕ) where
 
     pub judged_passed : accepted ≡ on_regions m memory → on_pairs m ≡ judged m memory
     judged_passed e = sym (judged_parts ∙ ap (λ (r : Reply). r then on_pairs m) (sym e))
+
+    pub judged_accepted : accepted ≡ on_regions m memory → accepted ≡ on_pairs m → accepted ≡ judged m memory
+    judged_accepted e f = f ∙ judged_passed e

@@ -4,15 +4,20 @@ use mathlib.Core.Logic.{⊎_elim}
 use mathlib.Core.List.{List}
 use Prim.Native.Nat.{ℕ, ◌<◌}
 use native.Mathlib.Omega.{arith}
+use mathlib.Core.Bool.{true}
+use mathlib.Core.Path.{refl}
 use lib.ListN.{length}
 use Rattle.map_records.specs.Words.{map_of}
 use Rattle.map_records.proofs.Order.{eq_or_not}
 use Rattle.map_records.proofs.WordLaws.{map_other}
 use Rattle.map_check.specs.Reply.{Reply, accepted, nodes, place, plain}
-use Rattle.map_check.specs.Check.{judged_by, judged, Accepted}
-use Rattle.map_check.specs.Promises.{Tree}
+use Rattle.map_check.specs.Check.{count_fault, judged_by, judged, Accepted}
+use Rattle.map_check.specs.Promises.{Walkable, Tree, Checked}
 use Rattle.map_check.proofs.Accepted.{accepted_sound, accepted_walkable}
 use Rattle.map_records.specs.Limits.{map_length}
+
+pub count_other : (w : List ℕ) → (length w ≡ map_length → ⊥) → count_fault (map_of w).count ≡ true
+count_other w other = rw (map_other w other) refl
 
 pub judged_other : (w : List ℕ) → (length w ≡ map_length → ⊥) → (memory : ℕ) → nodes 3 0 0 ≡ judged (map_of w) memory
 unfolding judged_by
@@ -34,3 +39,12 @@ module _ (w : List ℕ) (memory : ℕ) (ok : Accepted (map_of w) memory) where
 
   pub accepted_some : 0 < (map_of w).count
   accepted_some = (accepted_sound (map_of w) memory ok).some
+
+pub checked_tree : (w : List ℕ) → Checked w → Tree w
+checked_tree w known = accepted_tree w known.memory known.accepted
+
+pub checked_some : (w : List ℕ) → Checked w → 0 < (map_of w).count
+checked_some w known = accepted_some w known.memory known.accepted
+
+pub checked_walkable : (w : List ℕ) → Checked w → Walkable (map_of w)
+checked_walkable w known = accepted_walkable (map_of w) known.memory known.accepted

@@ -23,7 +23,7 @@ fault_reply (fault.Port i j) = nodes refusal.PORT i j
 fault_reply (fault.Overlap i j) = nodes refusal.OVERLAP i j
 
 -- and for each answer of the check
-abbrev pub reply : Result Unit MapFault → Reply
+abbrev pub reply : {A : Type 0} → Result A MapFault → Reply
 reply = reply_by fault_reply
 
 -- 3: 'node count 0 or over 32'

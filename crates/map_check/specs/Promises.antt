@@ -1,8 +1,9 @@
 -- What the functions inside the crate promise each other, and what inner functions above it rely on of a map's words (`Counted`, `Tree`). No promise of an entry point cites these. Assumes nothing: these are definitions.
-use Rattle.std.specs.Prelude.{◌≡◌, Bool, List, ℕ, ◌≤◌, ◌<◌, length, Option, Some, None}
+use Rattle.std.specs.Prelude.{◌≡◌, ◌≢◌, Bool, List, ℕ, ◌≤◌, ◌<◌, length, Option, Some, None}
 use Rattle.map_records.specs.Map.{alias, region}
 use Rattle.map_records.specs.Words.{map_of}
 use Rattle.map_check.specs.Reply.{Reply, accepted, nodes, ◌then◌, lowest, first_pair}
+use Rattle.map_check.specs.Check.{Accepted}
 use Rattle.map_check.specs.Fault.{kind_fault, field_fault, link_fault, memory_fault}
 use Rattle.map_check.specs.Clash.{priority_of, memory_clash, managed_clash, port_clash, sibling_clash}
 use Rattle.map_records.specs.Refusal as refusal
@@ -13,6 +14,7 @@ use Rattle.map_records.specs.declared.map.RegionMap.{RegionMap}
 -- words of a map whose count is one that a map can have
 pub record Counted (w : List ℕ) : Type 0 where
   pub words : length w ≡ map_length
+  pub some : (map_of w).count ≢ 0
   pub few : (map_of w).count ≤ most_regions
 
 -- what a closure answers for each number below n is what the rule says of it
@@ -70,3 +72,8 @@ pub record Walkable (m : RegionMap) : Type 0 where
 pub record Tree (w : List ℕ) : Type 0 where
   pub words : length w ≡ map_length
   pub walkable : Walkable (map_of w)
+
+-- words that the check accepted, over some length of guest memory
+pub record Checked (w : List ℕ) : Type 0 where
+  pub memory : ℕ
+  pub accepted : Accepted (map_of w) memory

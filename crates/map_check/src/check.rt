@@ -1,16 +1,15 @@
 // The check of a given map.
-ghost use Rattle.std.specs.Prelude.{◌≡◌};
+ghost use Rattle.std.specs.Prelude.{◌≡◌, IfOk};
 ghost use Rattle.map_records.specs.Words.{map_of};
-ghost use Rattle.map_check.specs.Check.{fault_reply, reply, judged};
-ghost use Rattle.map_check.specs.Promises.{Counted, on_regions, on_pairs};
+ghost use Rattle.map_check.specs.Check.{fault_reply, reply, judged, Accepted};
+ghost use Rattle.map_check.specs.Promises.{on_regions, on_pairs};
 
 use crate::answer::Fault;
+use crate::checked::{CheckedMap, CountedMap};
 use crate::clash::{managed_clash, memory_clash, port_clash, sibling_clash};
 use crate::fault::{field_fault, kind_fault, link_fault, memory_fault};
 use crate::search::{first_pair, lowest_fault};
-use map_records::map::REGIONS;
 use map_records::refusal::Refusal;
-use map_records::words::{MAP_WORDS, region_at, region_count};
 
 // The refusal of document 01 with its nodes: 3, 4 and 6 to 11.
 #[derive(Clone, Copy, Debug, PartialEq, Eq)]
@@ -43,29 +42,27 @@ impl Fault for MapFault {
 }
 
 // The rules over one region: 4, 6, 7, and 8's ends past the memory.
-fn check_regions(map: &[u64], memory_length: u64) -> Result<(), MapFault>
-    requires { Counted map.now }
+fn check_regions(map: &CountedMap, memory_length: u64) -> Result<(), MapFault>
     ensures { reply result ≡ on_regions (map_of map.now) memory_length }
 {
-    let count = region_count(map);
-    if let Some(n) = lowest_fault(count, |n| kind_fault(region_at(map, n))) {
+    let count = map.count();
+    if let Some(n) = lowest_fault(count, |n| kind_fault(map.region(n))) {
         return Err(MapFault::Kind(n));
     }
-    if let Some(n) = lowest_fault(count, |n| field_fault(region_at(map, n))) {
+    if let Some(n) = lowest_fault(count, |n| field_fault(map.region(n))) {
         return Err(MapFault::Field(n));
     }
     if let Some(n) = lowest_fault(count, |n| link_fault(map, n)) {
         return Err(MapFault::Link(n));
     }
-    if let Some(n) = lowest_fault(count, |n| memory_fault(memory_length, region_at(map, n))) {
+    if let Some(n) = lowest_fault(count, |n| memory_fault(memory_length, map.region(n))) {
         return Err(MapFault::Memory(n, n));
     }
     Ok(())
 }
 
 // The rules over two regions: 8's shared bytes, and 9 to 11.
-fn check_pairs(map: &[u64]) -> Result<(), MapFault>
-    requires { Counted map.now }
+fn check_pairs(map: &CountedMap) -> Result<(), MapFault>
     ensures { reply result ≡ on_pairs (map_of map.now) }
 {
     if let Some((i, j)) = first_pair(map, memory_clash) {
@@ -84,16 +81,14 @@ fn check_pairs(map: &[u64]) -> Result<(), MapFault>
 }
 
 // Judges a map against the length of guest memory. Words of another number than a map's are a map of no regions.
-pub fn check_map(map: &[u64], memory_length: u64) -> Result<(), MapFault>
-    ensures { reply result ≡ judged (map_of map.now) memory_length }
+pub fn check_map<'a>(map: &'a [u64], memory_length: u64) -> Result<CheckedMap<'a>, MapFault>
+    ensures reply { reply result ≡ judged (map_of map.now) memory_length }
+    ensures same { IfOk result (λ checked. (checked ≡ map.now) × Accepted (map_of map.now) memory_length) }
 {
-    if map.len() != MAP_WORDS {
+    let Some(counted) = CountedMap::new(map) else {
         return Err(MapFault::Count);
-    }
-    let count = region_count(map);
-    if count == 0 || REGIONS < count {
-        return Err(MapFault::Count);
-    }
-    check_regions(map, memory_length)?;
-    check_pairs(map)
+    };
+    check_regions(&counted, memory_length)?;
+    check_pairs(&counted)?;
+    Ok(counted.accepted())
 }

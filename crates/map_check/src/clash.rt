@@ -1,16 +1,15 @@
 // The rules of document 01 over two regions.
-ghost use Rattle.std.specs.Prelude.{◌≡◌, ◌<◌, length};
+ghost use Rattle.std.specs.Prelude.{◌≡◌};
 ghost use Rattle.map_records.specs.Map.{region};
 ghost use Rattle.map_records.specs.Words.{map_of};
 ghost use Rattle.map_check.specs.Clash.{share as share_of, siblings as siblings_of};
 ghost use Rattle.map_check.specs.Clash.{priority_of, memory_clash, managed_clash, port_clash, clash_below};
 ghost use Rattle.map_check.specs.Fault.{parent_of};
-ghost use Rattle.map_records.specs.Limits.{map_length};
 
+use crate::checked::CountedMap;
 use crate::priority::priority_of;
 use map_records::kind::Kind;
-use map_records::map::{REGIONS, Region, has_memory};
-use map_records::words::region_at;
+use map_records::map::{Region, has_memory};
 
 // Do [a, a + s) and [b, b + t) share a number? No sum is taken, so none wraps.
 fn share(a: u64, s: u64, b: u64, t: u64) -> bool
@@ -58,26 +57,13 @@ fn parent_of(r: Region) -> usize
     r.parent.saturating_sub(1)
 }
 
-// The size of region n, and 0 where a map has no room for such a region.
-#[tactic(auto, using(map_records::proofs::WordLaws::region_past))]
-fn size_of(map: &[u64], n: usize) -> u64
-    requires { length map.now ≡ map_length }
-    ensures { result ≡ (region (map_of map.now) n).size }
-{
-    if n < REGIONS {
-        return region_at(map, n).size;
-    }
-    0
-}
-
 // 11. The lowest address that two children share is the larger of their offsets. Only those below their parent's size
 // are ever asked of them.
 #[tactic(auto, using(crate::proofs::ClashLaws::clash_offsets))]
-pub fn sibling_clash(map: &[u64], a: Region, b: Region) -> bool
-    requires { length map.now ≡ map_length }
+pub fn sibling_clash(map: &CountedMap, a: Region, b: Region) -> bool
     ensures { result ≡ clash_below priority_of (region (map_of map.now) (parent_of a)).size a b }
 {
-    let end = size_of(map, parent_of(a));
+    let end = map.size_of(parent_of(a));
     let below = a.offset < end && b.offset < end;
     let shared = share(a.offset, a.size, b.offset, b.size) && below;
     siblings(a, b) && priority_of(a) == priority_of(b) && shared

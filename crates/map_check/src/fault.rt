@@ -1,13 +1,12 @@
 // The rules of document 01 over one region.
 ghost use Rattle.std.specs.Prelude.{◌≡◌, ◌<◌, ◌+◌};
 ghost use Rattle.map_records.specs.Words.{map_of};
-ghost use Rattle.map_check.specs.Promises.{Counted};
 ghost use Rattle.map_check.specs.Fault.{extra as extra_of, kind_fault, field_fault, parent_fault, target_fault, root_fault, link_fault, memory_fault};
 
+use crate::checked::CountedMap;
 use map_records::kind::Kind;
 use map_records::map::{Field, Region, has, has_memory};
 use map_records::numbers::{LIMIT, MOST_IN_BYTE, sum_within};
-use map_records::words::{region_at, region_count};
 
 // 4.
 pub fn kind_fault(r: Region) -> bool
@@ -37,17 +36,18 @@ pub fn field_fault(r: Region) -> bool
 }
 
 #[tactic(auto, unfolding(crate::specs::Fault::parent_fault))]
-fn parent_fault(map: &[u64], n: usize) -> bool
-    requires { Counted map.now × (n < (map_of map.now).count) }
+fn parent_fault(map: &CountedMap, n: usize) -> bool
+    requires { n < (map_of map.now).count }
     ensures { result ≡ parent_fault (map_of map.now) n }
 {
-    let Some(parent) = region_at(map, n).parent.checked_sub(1) else {
+    let count = map.count();
+    let Some(parent) = map.region(n).parent.checked_sub(1) else {
         return false;
     };
-    if parent <= n || region_count(map) <= parent {
+    if parent <= n || count <= parent {
         return true;
     }
-    let above = region_at(map, parent);
+    let above = map.region(parent);
     above.has_kind(Kind::Alias) || above.has_kind(Kind::Managed)
 }
 
@@ -65,12 +65,13 @@ fn root_fault(r: Region) -> bool
 
 // 7.
 #[tactic(auto, unfolding(crate::specs::Fault::link_fault))]
-pub fn link_fault(map: &[u64], n: usize) -> bool
-    requires { Counted map.now × (n < (map_of map.now).count) }
+pub fn link_fault(map: &CountedMap, n: usize) -> bool
+    requires { n < (map_of map.now).count }
     ensures { result ≡ link_fault (map_of map.now) n }
 {
-    let r = region_at(map, n);
-    let last = n + 1 == region_count(map);
+    let count = map.count();
+    let last = n + 1 == count;
+    let r = map.region(n);
     parent_fault(map, n) || target_fault(r, n) || last && root_fault(r)
 }
 

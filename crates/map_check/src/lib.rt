@@ -3,6 +3,7 @@
 
 pub mod answer;
 pub mod check;
+pub mod checked;
 mod clash;
 mod fault;
 pub mod priority;

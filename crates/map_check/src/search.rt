@@ -2,10 +2,10 @@
 ghost use Rattle.std.specs.Prelude.{ℕ, Bool, ◌<◌};
 ghost use Rattle.map_records.specs.Words.{map_of};
 ghost use Rattle.map_records.specs.declared.map.Region.{Region};
-ghost use Rattle.map_check.specs.Promises.{Counted, Tests, TestsPairs, pairs, LowestIs, FirstIs};
+ghost use Rattle.map_check.specs.Promises.{Tests, TestsPairs, pairs, LowestIs, FirstIs};
 
+use crate::checked::CountedMap;
 use map_records::map::Region;
-use map_records::words::{region_at, region_count};
 
 // The lowest region below the count that is at fault.
 pub fn lowest_fault<F: Fn(usize) -> bool>(count: usize, at_fault: F) -> Option<usize>
@@ -21,17 +21,19 @@ pub fn lowest_fault<F: Fn(usize) -> bool>(count: usize, at_fault: F) -> Option<u
 
 // The first two regions that clash, in ascending order, lower number first. Document 01 names the form of the search: two
 // nested loops over region numbers, left together by a label with the pair found.
-pub fn first_pair<F: Fn(Region, Region) -> bool>(map: &[u64], clashes: F) -> Option<(usize, usize)>
-    requires counted { Counted map.now }
-    requires callable { F.IsAlwaysCallable clashes }
+pub fn first_pair<F: Fn(Region, Region) -> bool>(
+    map: &CountedMap,
+    clashes: F,
+) -> Option<(usize, usize)>
+    requires { F.IsAlwaysCallable clashes }
     ensures { (rule : Region → Region → Bool) → TestsPairs rule (F.post clashes) → FirstIs (pairs (map_of map.now) rule) (map_of map.now).count result }
 {
-    let count = region_count(map);
+    let count = map.count();
     'search: {
         for i in 0..count {
-            let region = region_at(map, i);
+            let region = map.region(i);
             for j in i + 1..count {
-                if clashes(region, region_at(map, j)) {
+                if clashes(region, map.region(j)) {
                     break 'search Some((i, j));
                 }
             }

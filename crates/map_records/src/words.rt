@@ -15,14 +15,17 @@ pub const MAP_WORDS: usize = 289;
 
 pub const VIEW_WORDS: usize = 1537;
 
+pub type MapWords = [u64; MAP_WORDS];
+
+pub type ViewWords = [u64; VIEW_WORDS];
+
 // The words of a region, and of a range.
 const REGION_WORDS: usize = 9;
 
 const RANGE_WORDS: usize = 6;
 
 // How many regions a map has.
-pub fn region_count(map: &[u64]) -> usize
-    requires { length map.now ≡ map_length }
+pub fn region_count(map: &MapWords) -> usize
     ensures { result ≡ (map_of map.now).count }
 {
     map[0] as usize
@@ -46,22 +49,21 @@ fn region_from(map: &[u64], at: usize) -> Region
     }
 }
 
-pub fn region_at(map: &[u64], n: usize) -> Region
-    requires { (length map.now ≡ map_length) × (n < most_regions) }
+pub fn region_at(map: &MapWords, n: usize) -> Region
+    requires { n < most_regions }
     ensures { result ≡ region (map_of map.now) n }
 {
     region_from(map, 1 + REGION_WORDS * n)
 }
 
-pub fn put_region_count(map: &mut [u64], n: usize)
-    requires { length map.old ≡ map_length }
+pub fn put_region_count(map: &mut MapWords, n: usize)
     ensures { map.new ≡ set map.old 0 n }
 {
     map[0] = n as u64;
 }
 
-pub fn put_region(map: &mut [u64], n: usize, region: Region)
-    requires { (length map.old ≡ map_length) × (n < most_regions) }
+pub fn put_region(map: &mut MapWords, n: usize, region: Region)
+    requires { n < most_regions }
     ensures { map.new ≡ sets map.old (1 + region_length * n) (region_words region) }
 {
     let at = 1 + REGION_WORDS * n;
@@ -77,15 +79,13 @@ pub fn put_region(map: &mut [u64], n: usize, region: Region)
 }
 
 // How many ranges a view has.
-pub fn count_of(view: &[u64]) -> usize
-    requires { length view.now ≡ view_length }
+pub fn count_of(view: &ViewWords) -> usize
     ensures { result ≡ (view_of view.now).count }
 {
     view[0] as usize
 }
 
-pub fn put_count(view: &mut [u64], n: usize)
-    requires { length view.old ≡ view_length }
+pub fn put_count(view: &mut ViewWords, n: usize)
     ensures { view.new ≡ set view.old 0 n }
 {
     view[0] = n as u64;
@@ -106,15 +106,15 @@ fn range_from(view: &[u64], at: usize) -> FlatRange
     }
 }
 
-pub fn range_at(view: &[u64], k: usize) -> FlatRange
-    requires { (length view.now ≡ view_length) × (k < most_ranges) }
+pub fn range_at(view: &ViewWords, k: usize) -> FlatRange
+    requires { k < most_ranges }
     ensures { result ≡ range_of (view_of view.now) k }
 {
     range_from(view, 1 + RANGE_WORDS * k)
 }
 
-pub fn put_range(view: &mut [u64], k: usize, range: FlatRange)
-    requires { (length view.old ≡ view_length) × (k < most_ranges) }
+pub fn put_range(view: &mut ViewWords, k: usize, range: FlatRange)
+    requires { k < most_ranges }
     ensures { view.new ≡ sets view.old (1 + range_length * k) (range_words range) }
 {
     let at = 1 + RANGE_WORDS * k;

@@ -16,14 +16,14 @@ use Rattle.map_check.specs.declared.answer.RecordFault.{RecordFault}
 use Rattle.map_check.proofs.Bools.{and_off, never}
 use Rattle.device_words.specs.Table.{bit_at, within}
 use Rattle.device_words.specs.Device.{MemoryDevice, is_pinned, sizes_of, with_pins, with_pin, fresh, device_ok}
-use Rattle.device_words.specs.Promises.{Valid, ValidWords, Responds}
+use Rattle.device_words.specs.Promises.{Valid, Responds}
 use Rattle.device_words.specs.Request.{answered, changed_by, request_of, carried_out, RequestOutcome as Carried}
-use Rattle.device_words.specs.Words.{is_device, device_at, device_of, device_words, device_length}
+use Rattle.device_words.specs.Words.{device_at, device_of, device_words, device_length}
 use Rattle.device_words.specs.declared.request.Request.{Request}
 use Rattle.device_words.specs.declared.request.Response.{Response}
 use Rattle.device_words.proofs.TableLaws.{table_length_lem, past_bit}
 use Rattle.device_words.proofs.AnswerLaws.{table_whole}
-use Rattle.device_words.proofs.DeviceWords.{device_at_lem, device_none, halves, record_back, plugged_length, pins_length, ok_length, ok_device, not_device}
+use Rattle.device_words.proofs.DeviceWords.{device_at_lem, device_none, halves, record_back, plugged_length, pins_length, ok_length, device_first}
 use Rattle.device_words.proofs.RuleLaws.{device_valid, blocks_bound, blocks_mono}
 use Rattle.memory_device.specs.Record.{HostOutcome, host_fault_reply, host_reply, record_reply, outcome_by}
 use Rattle.memory_device.specs.Host.{host_refusal, done, if_ok, pin_fault, turn_fault, with_requested, configuration_of, ConfigurationRead, configured_into, read_of, byte_block, byte_of}
@@ -45,19 +45,19 @@ record_27 (Ok _) h = absurd (never (sym h))
 record_27 (Err e) h = refl
 
 -- ---- a call on words: 27, then a fault of its own, then a change
-pub left_27 : (w : List ℕ) → false ≡ (is_device w && device_ok (device_of w)) → (o : HostOutcome) (r : Reply) → r ≡ plain 27
+pub left_27 : (w : List ℕ) → false ≡ device_ok (device_of w) → (o : HostOutcome) (r : Reply) → r ≡ plain 27
     → LeavesDevice (if_ok (device_of w) o) w r w
-left_27 w e o r h = rw (not_device w false e refl) (record { reply = h; words = refl })
+left_27 w e o r h = rw (sym e) (record { reply = h; words = refl })
 
-module _ (w : List ℕ) (e : true ≡ (is_device w && device_ok (device_of w))) where
+module _ (w : List ℕ) (e : true ≡ device_ok (device_of w)) where
   pub sound_length : length w ≡ device_length
-  sound_length = ok_length w true e refl
+  sound_length = ok_length w true (e ∙ sym (device_first w)) refl
 
   pub sound_device : device_ok (device_of w) ≡ true
-  sound_device = ok_device w true e refl
+  sound_device = sym e
 
-  pub sound : ValidWords w
-  sound = record { size = sound_length; valid = rw (device_at_lem w sound_length) at (device_valid (device_of w) sound_device) }
+  pub sound : Valid (device_at w)
+  sound = rw (device_at_lem w sound_length) at (device_valid (device_of w) sound_device)
 
   module _ (fault : MemoryDevice → Bool) (k : ℕ) (next : MemoryDevice → MemoryDevice) where
     pub left_fault : fault (device_at w) ≡ true
@@ -211,14 +211,14 @@ fair d h fault k next f = go (device_ok d) fault
     go false y = inl (refl, refl)
 
 -- ---- a request
-pub carries_done : (w s out : List ℕ) → true ≡ (is_device w && device_ok (device_of w)) → length out ≡ 10 → (out' response w' : List ℕ) → out' ≡ response → Responds w s response w'
+pub carries_done : (w s out : List ℕ) → true ≡ device_ok (device_of w) → length out ≡ 10 → (out' response w' : List ℕ) → out' ≡ response → Responds w s response w'
     → Carries (carried_into (device_of w) s out) w accepted out' w'
 unfolding carried_into
 carries_done w s out e l out' response w' p q = rw (eq-eqb (length out) 10 l, sound_device w e) (refl, p ∙ q.0, q.1)
 
-pub carries_27 : (w s out : List ℕ) → false ≡ (is_device w && device_ok (device_of w)) → (r : Reply) → r ≡ plain 27 → Carries (carried_into (device_of w) s out) w r out w
+pub carries_27 : (w s out : List ℕ) → false ≡ device_ok (device_of w) → (r : Reply) → r ≡ plain 27 → Carries (carried_into (device_of w) s out) w r out w
 unfolding carried_into
-carries_27 w s out e r h = rw (not_device w false e refl, and_off (eqb (length out) 10)) (h, refl, refl)
+carries_27 w s out e r h = rw (sym e, and_off (eqb (length out) 10)) (h, refl, refl)
 
 pub carries_length : (w s out : List ℕ) → (length out ≡ 10 → ⊥) → Carries (carried_into (device_of w) s out) w (plain 27) out w
 unfolding carried_into
@@ -254,14 +254,14 @@ module _ (d : MemoryDevice) (s out : List ℕ) where
       go false h = refl
 
 -- ---- the configuration
-pub configures : (w out : List ℕ) → true ≡ (is_device w && device_ok (device_of w)) → length out ≡ 56 → (out' : List ℕ) → out' ≡ configuration_of (device_at w)
+pub configures : (w out : List ℕ) → true ≡ device_ok (device_of w) → length out ≡ 56 → (out' : List ℕ) → out' ≡ configuration_of (device_at w)
     → ReadsConfiguration (configured_into (device_of w) out) accepted out'
 unfolding configured_into
 configures w out e l out' p = rw (eq-eqb (length out) 56 l, sound_device w e) (refl, p ∙ ap configuration_of (sym (device_at_lem w (sound_length w e))))
 
-pub configures_27 : (w out : List ℕ) → false ≡ (is_device w && device_ok (device_of w)) → (r : Reply) → r ≡ plain 27 → ReadsConfiguration (configured_into (device_of w) out) r out
+pub configures_27 : (w out : List ℕ) → false ≡ device_ok (device_of w) → (r : Reply) → r ≡ plain 27 → ReadsConfiguration (configured_into (device_of w) out) r out
 unfolding configured_into
-configures_27 w out e r h = rw (not_device w false e refl, and_off (eqb (length out) 56)) (h, refl)
+configures_27 w out e r h = rw (sym e, and_off (eqb (length out) 56)) (h, refl)
 
 pub configures_length : (w out : List ℕ) → (length out ≡ 56 → ⊥) → ReadsConfiguration (configured_into (device_of w) out) (plain 27) out
 unfolding configured_into
@@ -284,10 +284,10 @@ configured_27 d w out e l = go (eqb (length out) 56 && device_ok d) (rw e at l.0
     go false h = refl
 
 -- ---- a block of a byte
-pub byte_27 : (w : List ℕ) (o : ℕ) → false ≡ (is_device w && device_ok (device_of w)) → (r : Result (Option BlockNumber) RecordFault) → IsErr r → byte_of r ≡ byte_block (device_of w) o
+pub byte_27 : (w : List ℕ) (o : ℕ) → false ≡ device_ok (device_of w) → (r : Result (Option BlockNumber) RecordFault) → IsErr r → byte_of r ≡ byte_block (device_of w) o
 unfolding byte_block
 byte_27 w o e (Ok _) h = absurd (never (sym h))
-byte_27 w o e (Err _) h = rw (not_device w false e refl)
+byte_27 w o e (Err _) h = rw (sym e)
 
 -- ---- what a method by value passes on
 pub configuration_27 : (d : MemoryDevice) (r : Result (List ℕ) RecordFault) → IsErr r → read_of r ≡ record { reply = plain 27; bytes = replicate 56 0 }

@@ -1,7 +1,7 @@
 // The host's calls and the guest's requests, on a device's words where they lie. Each judges 27 first; a refusal leaves the
 // words as they were, and a slice of another length is refused with 27.
-ghost use Rattle.std.specs.Prelude.{◌≡◌, ◌&&◌, is_ok};
-ghost use Rattle.device_words.specs.Words.{is_device, device_of};
+ghost use Rattle.std.specs.Prelude.{◌≡◌, is_ok, IfOk};
+ghost use Rattle.device_words.specs.Words.{device_of};
 ghost use Rattle.device_words.specs.Device.{device_ok};
 ghost use Rattle.memory_device.specs.Record.{host_reply, record_reply};
 ghost use Rattle.memory_device.specs.Host.{resized, turn_pin, pin_block, unpin_block, system_reset, configured_into, byte_block, byte_of};
@@ -14,20 +14,18 @@ use device_words::answer::respond;
 use device_words::block::{BlockNumber, block_of, block_of_host};
 use device_words::bytes::{CONFIGURATION_BYTES, REQUEST_BYTES, RESPONSE_BYTES};
 use device_words::pins::set_pin;
-use device_words::rules::device_ok;
-use device_words::words::{block_size, region_size};
+use device_words::rules::valid;
+use device_words::words::{DeviceWords, block_size, region_size};
 use map_check::answer::RecordFault;
 use map_records::map::RegionOffset;
 
-// 27 first: the words that are no device's, or a record that breaks its rules.
-fn check(device: &[u64]) -> Result<(), RecordFault>
-    ensures { is_ok result ≡ (is_device device.now && device_ok (device_of device.now)) }
+// 27 first: the words that are no device's, or a record that breaks its rules. A call that changes the words takes them as an
+// array after it: as many as a device has, so that `unwrap` has nothing to refuse.
+fn check(device: &[u64]) -> Result<&DeviceWords, RecordFault>
+    ensures judged { is_ok result ≡ device_ok (device_of device.now) }
+    ensures same { IfOk result (λ words. words.now ≡ device.now) }
 {
-    if device_ok(device) {
-        Ok(())
-    } else {
-        Err(RecordFault)
-    }
+    valid(device).ok_or(RecordFault)
 }
 
 // The requested size is set, and raises the usable size to it if that is lower.
@@ -35,6 +33,7 @@ pub fn set_requested_size(device: &mut [u64], size: u64) -> Result<(), HostFault
     ensures { LeavesDevice (resized (device_of device.old) size) device.old (host_reply result) device.new }
 {
     check(device)?;
+    let device = device.as_mut_array().unwrap();
     if size_fault(device, size) {
         return Err(HostFault::Size);
     }
@@ -47,6 +46,7 @@ pub fn system_reset(device: &mut [u64]) -> Result<(), RecordFault>
     ensures { LeavesDevice (system_reset (device_of device.old)) device.old (record_reply result) device.new }
 {
     check(device)?;
+    let device = device.as_mut_array().unwrap();
     clear_tables(device);
     Ok(())
 }
@@ -57,6 +57,7 @@ fn turn_pin(device: &mut [u64], block: u64, on: bool) -> Result<(), HostFault>
     ensures { LeavesDevice (turn_pin (device_of device.old) block on) device.old (host_reply result) device.new }
 {
     check(device)?;
+    let device = device.as_mut_array().unwrap();
     let b = block_of_host(block);
     if !can_turn(device, b, on) {
         return Err(HostFault::Pin);
@@ -86,7 +87,7 @@ pub fn configuration(device: &[u64], bytes: &mut [u8]) -> Result<(), RecordFault
     if bytes.len() != CONFIGURATION_BYTES {
         return Err(RecordFault);
     }
-    check(device)?;
+    let device = check(device)?;
     put_values(device, bytes);
     Ok(())
 }
@@ -104,6 +105,7 @@ pub fn carry_out(
         return Err(RecordFault);
     }
     check(device)?;
+    let device = device.as_mut_array().unwrap();
     response.copy_from_slice(&respond(device, request));
     Ok(())
 }
@@ -115,7 +117,7 @@ pub fn block_of_byte(
 ) -> Result<Option<BlockNumber>, RecordFault>
     ensures { byte_of result ≡ byte_block (device_of device.now) offset.0 }
 {
-    check(device)?;
+    let device = check(device)?;
     if region_size(device) <= offset.0 {
         return Ok(None);
     }

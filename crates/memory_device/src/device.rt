@@ -1,13 +1,14 @@
 // The device's record, and the words in which it lies.
-ghost use Rattle.std.specs.Prelude.{◌≡◌, length};
+ghost use Rattle.std.specs.Prelude.{◌≡◌};
 ghost use Rattle.device_words.specs.Device.{no_device, with_tables};
-ghost use Rattle.device_words.specs.Words.{device_at, device_of, device_words, device_length};
+ghost use Rattle.device_words.specs.Words.{device_at, device_of, device_words};
 ghost use Rattle.memory_device.specs.Record.{record_of, host_fault_reply};
 ghost use Rattle.memory_device.specs.declared.device.HostFault.TheVariants.{Record};
 
-use device_words::table::TABLE_WORDS;
+use device_words::table::{TABLE_WORDS, TableWords};
 use device_words::words::{
-    ADDR, BLOCK_SIZE, DEVICE_WORDS, PINNED, PLUGGED, REGION_SIZE, REQUESTED_SIZE, USABLE_SIZE,
+    ADDR, BLOCK_SIZE, DEVICE_WORDS, DeviceWords, PINNED, PLUGGED, REGION_SIZE, REQUESTED_SIZE,
+    USABLE_SIZE, pin_table, plug_table,
 };
 use map_check::answer::{Fault, RecordFault};
 use map_records::map::GuestAddress;
@@ -21,8 +22,8 @@ pub struct MemoryDevice {
     pub region_size: u64,
     pub usable_size: u64,
     pub requested_size: u64,
-    pub plugged: [u64; TABLE_WORDS],
-    pub pinned: [u64; TABLE_WORDS],
+    pub plugged: TableWords,
+    pub pinned: TableWords,
 }
 
 // What a call of the host refuses with: 14, 15 or 27 of document 01.
@@ -54,8 +55,7 @@ impl From<RecordFault> for HostFault {
 }
 
 // Both tables into a device's words.
-fn put_tables(words: &mut [u64], plugged: [u64; TABLE_WORDS], pinned: [u64; TABLE_WORDS])
-    requires { length words.old ≡ device_length }
+fn put_tables(words: &mut DeviceWords, plugged: TableWords, pinned: TableWords)
     ensures { words.new ≡ device_words (with_tables (device_at words.old) plugged pinned) }
 {
     words[PLUGGED..PINNED].copy_from_slice(&plugged);
@@ -63,7 +63,7 @@ fn put_tables(words: &mut [u64], plugged: [u64; TABLE_WORDS], pinned: [u64; TABL
 }
 
 // The words of a record. A `From` would be no plainer: at a call it would not say what the 37 numbers are.
-pub fn words_of(device: MemoryDevice) -> [u64; DEVICE_WORDS]
+pub fn words_of(device: MemoryDevice) -> DeviceWords
     ensures { (result ≡ device_words (record_of device)) × (device_of result ≡ record_of device) }
 {
     let mut words = [0; DEVICE_WORDS];
@@ -80,17 +80,17 @@ pub fn words_of(device: MemoryDevice) -> [u64; DEVICE_WORDS]
 pub fn device_of(words: &[u64]) -> MemoryDevice
     ensures { record_of result ≡ device_of words.now }
 {
-    if words.len() != DEVICE_WORDS {
+    let Some(words) = words.as_array() else {
         return no_device();
-    }
+    };
     MemoryDevice {
         block_size: words[BLOCK_SIZE],
         addr: GuestAddress(words[ADDR]),
         region_size: words[REGION_SIZE],
         usable_size: words[USABLE_SIZE],
         requested_size: words[REQUESTED_SIZE],
-        plugged: words[PLUGGED..PINNED].try_into().unwrap(),
-        pinned: words[PINNED..DEVICE_WORDS].try_into().unwrap(),
+        plugged: *plug_table(words),
+        pinned: *pin_table(words),
     }
 }
 

@@ -1,7 +1,6 @@
 // Setting the device up from a given map.
 ghost use Rattle.std.specs.Prelude.{◌≡◌};
 ghost use Rattle.map_records.specs.Words.{map_of};
-ghost use Rattle.map_check.specs.Promises.{Counted};
 ghost use Rattle.memory_device.specs.Record.{record_of};
 ghost use Rattle.memory_device.specs.SetUp.{region_size, fresh_device, set_up, set_up_fault_reply, set_up_outcome_of};
 ghost use Rattle.memory_device.specs.declared.setup.SetUpFault.TheVariants.{Map};
@@ -11,10 +10,10 @@ use device_words::rules::setup_ok;
 use device_words::table::TABLE_WORDS;
 use map_check::answer::Fault;
 use map_check::check::{MapFault, check_map};
+use map_check::checked::CheckedMap;
 use map_records::kind::Kind;
 use map_records::map::GuestAddress;
 use map_records::refusal::Refusal;
-use map_records::words::{region_at, region_count};
 
 // What the host chooses. The region's size is the managed region's.
 #[derive(Clone, Copy, Debug, PartialEq, Eq)]
@@ -69,12 +68,11 @@ impl From<MapFault> for SetUpFault {
 }
 
 // The size of the managed region, or 0.
-fn managed_size(map: &[u64]) -> u64
-    requires { Counted map.now }
+fn managed_size(map: &CheckedMap) -> u64
     ensures { result ≡ region_size (map_of map.now) }
 {
-    (0..region_count(map))
-        .map(|n| region_at(map, n))
+    (0..map.count())
+        .map(|n| map.region(n))
         .rfind(|region| region.has_kind(Kind::Managed))
         .map_or(0, |region| region.size)
 }
@@ -87,8 +85,8 @@ pub fn set_up(
 ) -> Result<MemoryDevice, SetUpFault>
     ensures { set_up_outcome_of result ≡ set_up (map_of map.now) memory_length values }
 {
-    check_map(map, memory_length)?;
-    let region_size = managed_size(map);
+    let map = check_map(map, memory_length)?;
+    let region_size = managed_size(&map);
     if !setup_ok(
         values.block_size,
         values.addr,

@@ -1,8 +1,8 @@
 // What the host's calls ask of the words of a valid device, and what they change.
 ghost use Rattle.std.specs.Prelude.{◌≡◌, true, not, ◌<◌, length};
 ghost use Rattle.device_words.specs.Device.{fresh};
-ghost use Rattle.device_words.specs.Promises.{ValidWords};
-ghost use Rattle.device_words.specs.Words.{device_at, device_words, device_length};
+ghost use Rattle.device_words.specs.Promises.{Valid};
+ghost use Rattle.device_words.specs.Words.{device_at, device_words};
 ghost use Rattle.memory_device.specs.Host.{size_fault, with_requested, turn_fault, configuration_of};
 ghost use Rattle.device_words.specs.Bytes.{configuration_length};
 ghost use Rattle.device_words.specs.Table.{most_blocks};
@@ -13,21 +13,21 @@ use device_words::pins::is_pinned;
 use device_words::plugs::{blocks_in, is_plugged, plugged_size};
 use device_words::table::clear;
 use device_words::words::{
-    ADDR, BLOCK_SIZE, DEVICE_WORDS, PINNED, PLUGGED, REGION_SIZE, REQUESTED_SIZE, USABLE_SIZE,
+    ADDR, BLOCK_SIZE, DEVICE_WORDS, DeviceWords, PINNED, PLUGGED, REGION_SIZE, REQUESTED_SIZE,
+    USABLE_SIZE, plug_table,
 };
 use map_records::map::GuestAddress;
 
 // Is a requested size refused?
-pub fn size_fault(device: &[u64], size: u64) -> bool
-    requires { ValidWords device.now }
+pub fn size_fault(device: &DeviceWords, size: u64) -> bool
+    requires { Valid (device_at device.now) }
     ensures { result ≡ size_fault (device_at device.now) size }
 {
     size % device[BLOCK_SIZE] != 0 || device[REGION_SIZE] < size
 }
 
 // Another requested size, and the usable size at least that.
-pub fn set_requested(device: &mut [u64], size: u64)
-    requires { length device.old ≡ device_length }
+pub fn set_requested(device: &mut DeviceWords, size: u64)
     ensures { device.new ≡ device_words (with_requested (device_at device.old) size) }
 {
     device[USABLE_SIZE] = device[USABLE_SIZE].max(size);
@@ -35,8 +35,7 @@ pub fn set_requested(device: &mut [u64], size: u64)
 }
 
 // Nothing is plugged or pinned any longer.
-pub fn clear_tables(device: &mut [u64])
-    requires { length device.old ≡ device_length }
+pub fn clear_tables(device: &mut DeviceWords)
     ensures { device.new ≡ device_words (fresh (device_at device.old)) }
 {
     clear(&mut device[PLUGGED..PINNED]);
@@ -45,8 +44,8 @@ pub fn clear_tables(device: &mut [u64])
 
 // May a block be pinned, or let go? It is in the region, plugged, and not so yet. A pinned one is both, so that no more is
 // asked of one that is let go.
-pub fn can_turn(device: &[u64], b: BlockNumber, on: bool) -> bool
-    requires { ValidWords device.now }
+pub fn can_turn(device: &DeviceWords, b: BlockNumber, on: bool) -> bool
+    requires { Valid (device_at device.now) }
     ensures value { result ≡ not (turn_fault (device_at device.now) b.0 on) }
     ensures room { result ≡ true → b.0 < most_blocks }
 {
@@ -55,12 +54,12 @@ pub fn can_turn(device: &[u64], b: BlockNumber, on: bool) -> bool
 }
 
 // The configuration's bytes.
-pub fn put_values(device: &[u64], out: &mut [u8])
-    requires { ValidWords device.now × (length out.old ≡ configuration_length) }
+pub fn put_values(device: &DeviceWords, out: &mut [u8])
+    requires { Valid (device_at device.now) × (length out.old ≡ configuration_length) }
     ensures { out.new ≡ configuration_of (device_at device.now) }
 {
     let addr = GuestAddress(device[ADDR]);
-    let size = plugged_size(device[BLOCK_SIZE], &device[PLUGGED..PINNED]);
+    let size = plugged_size(device[BLOCK_SIZE], plug_table(device));
     put_configuration(
         out,
         device[BLOCK_SIZE],

@@ -25,11 +25,6 @@ tried_in m n r a = tried priority_of m (walk_below priority_of m n) n r a
 abbrev pub answer_in : RegionMap → ℕ → ℕ → ℕ → Option Found
 answer_in m n r a = rank_answer priority_of m (walk_below priority_of m n) n r a
 
--- region n of a map that can be gone through
-pub record InTree (w : List ℕ) (n : ℕ) : Type 0 where
-  pub tree : Tree w
-  pub below : n < (map_of w).count
-
 -- the first number past one that was found
 abbrev pub past : Option ℕ → ℕ
 past None = 0
@@ -80,7 +75,6 @@ pub record Grows (l : List FlatRange) (before : List ℕ) (answer : Result Unit 
 
 -- a table that is whole from where the view of the same map ends
 pub record Emits (map view : List ℕ) (table : PieceTable) : Type 0 where
-  pub words : length map ≡ map_length
   pub room : Viewed view
   pub pieces : Pieces table
   pub list : entries (view_of view) ≡ flat_below (map_of map) table.start.0

@@ -1,21 +1,21 @@
 // Making the flat view: the tree is rendered into a table of pieces, and the pieces are put into the view in
 // the order of their addresses.
-ghost use Rattle.std.specs.Prelude.{◌≡◌, [], ◌-◌, ◌≤◌, ◌<◌, length};
+ghost use Rattle.std.specs.Prelude.{◌≡◌, [], ◌-◌, ◌≤◌, ◌<◌};
 ghost use Rattle.map_records.specs.View.{entries};
 ghost use Rattle.map_records.specs.Words.{map_of, view_of};
 ghost use Rattle.region_map.specs.FlatList.{joins, push};
 ghost use Rattle.region_map.specs.Flatten.{base_of, backing_of, flat_below, flat_list, view_holding};
-ghost use Rattle.map_check.specs.Promises.{Tree};
+ghost use Rattle.map_records.specs.Limits.{most_regions};
 ghost use Rattle.region_map.specs.Promises.{Viewed, NoEmptyRange, Grows, Emits};
-ghost use Rattle.map_records.specs.Limits.{map_length, view_length, most_regions};
 
 use crate::pieces::{AddressSpan, PieceTable, nearer};
 use crate::render::render;
 use crate::resolve::root_offset;
+use map_check::checked::CheckedMap;
 use map_records::kind::Kind;
 use map_records::map::{GuestAddress, Region};
 use map_records::view::{FlatRange, RANGES};
-use map_records::words::{count_of, put_count, put_range, range_at, region_at, region_count};
+use map_records::words::{ViewWords, count_of, put_count, put_range, range_at};
 
 // What a range carries of its region: the kind, and the memory start or port.
 #[derive(Clone, Copy)]
@@ -49,7 +49,7 @@ fn goes_on(x: FlatRange, r: FlatRange) -> bool
 }
 
 // One range more in the view, or the last one grown.
-fn push_range(view: &mut [u64], r: FlatRange) -> Result<(), TooManyRanges>
+fn push_range(view: &mut ViewWords, r: FlatRange) -> Result<(), TooManyRanges>
     requires { Viewed view.old × NoEmptyRange (view_of view.old) }
     ensures { Grows (push (entries (view_of view.old)) r) view.old result view.new }
 {
@@ -82,11 +82,11 @@ fn base_of(r: Region) -> u64
     }
 }
 
-fn backing_of(map: &[u64], n: usize) -> Backing
-    requires { (length map.now ≡ map_length) × (n < most_regions) }
+fn backing_of(map: &CheckedMap, n: usize) -> Backing
+    requires { n < most_regions }
     ensures { result ≡ backing_of (map_of map.now) n }
 {
-    let region = region_at(map, n);
+    let region = map.slot(n);
     Backing {
         kind: region.kind,
         base: base_of(region),
@@ -102,7 +102,7 @@ fn last_before(end: GuestAddress) -> GuestAddress
 }
 
 // The pieces of a table, which is whole from where the view ends up to its horizon, put into the view.
-fn emit(map: &[u64], view: &mut [u64], table: &PieceTable) -> Result<(), TooManyRanges>
+fn emit(map: &CheckedMap, view: &mut ViewWords, table: &PieceTable) -> Result<(), TooManyRanges>
     requires { Emits map.now view.old table.now }
     ensures { Grows (flat_below (map_of map.now) table.now.horizon.0)
         view.old result view.new }
@@ -131,13 +131,12 @@ fn root_end(size: u64) -> GuestAddress
 }
 
 // The ranges of all addresses of the root, laid into an empty view.
-pub fn sweep(map: &[u64], view: &mut [u64]) -> Result<(), TooManyRanges>
-    requires tree { Tree map.now × (0 < (map_of map.now).count) }
-    requires view_len { (length view.old ≡ view_length) × (view_of view.old ≡ view_holding []) }
+pub fn sweep(map: &CheckedMap, view: &mut ViewWords) -> Result<(), TooManyRanges>
+    requires { view_of view.old ≡ view_holding [] }
     ensures { Grows (flat_list (map_of map.now)) view.old result view.new }
 {
-    let root = region_count(map) - 1;
-    let region = region_at(map, root);
+    let root = map.count() - 1;
+    let region = map.region(root);
     let end = root_end(region.size);
     let mut table = PieceTable::new();
     let mut at = GuestAddress(0);

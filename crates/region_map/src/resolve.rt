@@ -6,7 +6,6 @@ ghost use Rattle.region_map.specs.Resolve.{resolved, led_by};
 use crate::walk::walk;
 use map_check::check::{MapFault, check_map};
 use map_records::map::{Found, GuestAddress, RegionOffset};
-use map_records::words::region_count;
 
 // A guest address is walked from the root: there it is the offset.
 pub fn root_offset(address: GuestAddress) -> RegionOffset
@@ -23,7 +22,7 @@ pub fn resolve_address(
 ) -> Result<Option<Found>, MapFault>
     ensures { led_by result ≡ resolved (map_of map.now) memory_length address.0 }
 {
-    check_map(map, memory_length)?;
-    let root = region_count(map) - 1;
-    Ok(walk(map, root, root_offset(address)))
+    let map = check_map(map, memory_length)?;
+    let root = map.count() - 1;
+    Ok(walk(&map, root, root_offset(address)))
 }

@@ -55,9 +55,9 @@ pub fn flatten(map: &[u64], memory_length: u64, view: &mut [u64]) -> Result<(), 
     if view.len() != VIEW_WORDS {
         return Err(FlatFault::Record);
     }
-    check_map(map, memory_length)?;
+    let map = check_map(map, memory_length)?;
     let mut made = [0u64; VIEW_WORDS];
-    sweep(map, &mut made)?;
+    sweep(&map, &mut made)?;
     view.copy_from_slice(&made);
     Ok(())
 }

@@ -1,23 +1,23 @@
 // The walk through the tree. Walking a region and trying its remaining children are two functions
 // that call each other: the pair of region number and children left falls.
-ghost use Rattle.std.specs.Prelude.{◌≡◌, ◌≤◌};
+ghost use Rattle.std.specs.Prelude.{◌≡◌, ◌≤◌, ◌<◌};
 ghost use Rattle.region_map.specs.Walk.{walk as walk_of, ranks};
 ghost use Rattle.map_records.specs.Words.{map_of};
-ghost use Rattle.region_map.specs.Promises.{InTree, tried_in};
+ghost use Rattle.region_map.specs.Promises.{tried_in};
 
 use crate::children::{RANKS, next_child};
+use map_check::checked::CheckedMap;
 use map_records::kind::Kind;
 use map_records::map::{Found, REGIONS, RegionOffset};
-use map_records::words::region_at;
 
 // Region n at an offset inside it.
 #[cycle(walk_walk_children)]
-pub fn walk(map: &[u64], n: usize, at: RegionOffset) -> Option<Found>
-    requires { InTree map.now n }
+pub fn walk(map: &CheckedMap, n: usize, at: RegionOffset) -> Option<Found>
+    requires { n < (map_of map.now).count }
     ensures { result ≡ walk_of (map_of map.now) n at.0 }
 {
     let a = at.0;
-    let region = region_at(map, n);
+    let region = map.region(n);
     if region.size <= a {
         return None;
     }
@@ -29,12 +29,12 @@ pub fn walk(map: &[u64], n: usize, at: RegionOffset) -> Option<Found>
 
 // The children of n whose ranks are below `below`, highest first, and then n itself.
 #[cycle(walk_walk_children)]
-fn walk_children(map: &[u64], n: usize, at: RegionOffset, below: usize) -> Option<Found>
-    requires { InTree map.now n × (below ≤ ranks) }
+fn walk_children(map: &CheckedMap, n: usize, at: RegionOffset, below: usize) -> Option<Found>
+    requires { (n < (map_of map.now).count) × (below ≤ ranks) }
     ensures { result ≡ tried_in (map_of map.now) n below at.0 }
 {
     let Some(next) = next_child(map, n, below) else {
-        if region_at(map, n).has_kind(Kind::Container) {
+        if map.region(n).has_kind(Kind::Container) {
             return None;
         }
         return Some(Found {
@@ -44,7 +44,7 @@ fn walk_children(map: &[u64], n: usize, at: RegionOffset, below: usize) -> Optio
     };
     let c = next % REGIONS;
     let a = at.0;
-    let child = region_at(map, c);
+    let child = map.region(c);
     if a < child.offset {
         return walk_children(map, n, at, next);
     }

@@ -1,41 +1,32 @@
 // Routing of guest accesses, one and many.
 ghost use Rattle.std.specs.Prelude.{◌≡◌, true, [], ◌∷◌, option_map, ◌+◌, ◌*◌, ◌≤◌, ◌<◌, length};
 ghost use Rattle.std.proofs.lemmas.List.Edits.{sets};
-ghost use Rattle.device_words.specs.Table.{all_below, table_length};
+ghost use Rattle.device_words.specs.Table.{all_below};
 ghost use Rattle.device_words.specs.Device.{plugged_in};
 ghost use Rattle.device_words.specs.Words.{device_of};
 ghost use Rattle.map_records.specs.Words.{view_of};
 ghost use Rattle.map_records.specs.Limits.{limit};
-ghost use Rattle.guest_view.specs.Promises.{Judged, Spot};
+ghost use Rattle.guest_view.specs.Promises.{Spot};
 ghost use Rattle.routing.specs.Route.{width_ok, routed_by, routed_given, all_given, all_number, RoutesAll};
 ghost use Rattle.routing.specs.Route.{answer_words, answers_of, answers_fit};
 ghost use Rattle.routing.specs.Promises.{is_whole, routed_in, Asked};
 
 use crate::answer::{Route, RouteFault};
 use crate::view::NO_REGION;
-use device_words::rules::device_ok;
-use device_words::table::TABLE_WORDS;
+use device_words::rules::valid;
+use device_words::table::{TABLE_WORDS, TableWords};
 use device_words::words::{block_size, plugged, region_size};
-use guest_view::find::near;
 use guest_view::place::{offset_in, place_of};
-use guest_view::reach::byte_plugged;
-use guest_view::rules::view_ok;
+use guest_view::reach::{Blocks, Guest};
+use guest_view::view::View;
 use map_check::answer::{Fault, RecordFault};
 use map_records::kind::Kind;
 use map_records::map::{GuestAddress, RegionOffset};
-use map_records::words::{count_of, range_at};
 
 // Given no device, no block is plugged: a table of zeros, over blocks of any size.
 const ANY_BLOCK_SIZE: u64 = 4096;
 
-static NONE_PLUGGED: [u64; TABLE_WORDS] = [0; TABLE_WORDS];
-
-// The managed region's blocks: the size of each, and the table of those that are plugged.
-#[derive(Clone, Copy)]
-struct Blocks<'a> {
-    size: u64,
-    plugged: &'a [u64],
-}
+static NONE_PLUGGED: TableWords = [0; TABLE_WORDS];
 
 fn width_ok(w: u64) -> bool
     ensures { result ≡ width_ok w }
@@ -44,21 +35,21 @@ fn width_ok(w: u64) -> bool
 }
 
 // Is each later byte the same region at the next offset? Byte by byte, for an access across an edge.
-fn bytes_follow(view: &[u64], at: usize, a: GuestAddress, w: u64) -> bool
-    requires judged { Judged view.now }
+fn bytes_follow(view: &View, at: usize, a: GuestAddress, w: u64) -> bool
     requires spot { Spot (view_of view.now) a.0 at }
     requires at_bound { (at < (view_of view.now).count) × (0 < w) × (w ≤ 8) }
     ensures { result ≡ is_whole view.now a.0 w }
 {
-    let range = range_at(view, at);
+    let range = view.range(at);
     let offset = offset_in(range, a);
+    // At most seven numbers, and the first byte that does not follow ends it.
     for i in 1..w {
         let b = GuestAddress(a.0 + i);
-        let here = near(view, at, b);
-        if count_of(view) <= here {
+        let here = view.near(at, b);
+        if view.count() <= here {
             return false;
         }
-        let other = range_at(view, here);
+        let other = view.range(here);
         let there = offset_in(other, b);
         if !((other.region == range.region) & (there.0 == offset.0 + i)) {
             return false;
@@ -68,13 +59,12 @@ fn bytes_follow(view: &[u64], at: usize, a: GuestAddress, w: u64) -> bool
 }
 
 // In one range it is.
-fn is_whole(view: &[u64], at: usize, a: GuestAddress, w: u64) -> bool
-    requires judged { Judged view.now }
+fn is_whole(view: &View, at: usize, a: GuestAddress, w: u64) -> bool
     requires spot { Spot (view_of view.now) a.0 at }
     requires at_bound { (at < (view_of view.now).count) × (0 < w) × (w ≤ 8) }
     ensures { result ≡ is_whole view.now a.0 w }
 {
-    let range = range_at(view, at);
+    let range = view.range(at);
     if w - 1 <= range.last.0 - a.0 {
         return true;
     }
@@ -82,48 +72,39 @@ fn is_whole(view: &[u64], at: usize, a: GuestAddress, w: u64) -> bool
 }
 
 // Are the blocks of an access plugged? They are at most two, since no block is shorter than it.
-fn blocks_plugged(block: u64, plugged: &[u64], offset: RegionOffset, w: u64) -> bool
-    requires le_block { (8 ≤ block) × (length plugged.now ≡ table_length) }
-    requires w_nonzero { (0 < w) × (w ≤ 8) × (offset.0 < limit) }
-    ensures { result ≡ all_below (λ i. plugged_in block plugged.now (offset.0 + i)) w }
+fn blocks_plugged(blocks: &Blocks, offset: RegionOffset, w: u64) -> bool
+    requires { (0 < w) × (w ≤ 8) × (offset.0 < limit) }
+    ensures { result ≡ all_below (λ i. plugged_in blocks.now.size blocks.now.plugged.now (offset.0 + i)) w }
 {
-    if !byte_plugged(block, plugged, offset) {
+    if !blocks.byte_plugged(offset) {
         return false;
     }
-    if w - 1 <= block - 1 - offset.0 % block {
+    if w - 1 <= blocks.size - 1 - offset.0 % blocks.size {
         return true;
     }
     let last = RegionOffset(offset.0 + (w - 1));
-    byte_plugged(block, plugged, last)
+    blocks.byte_plugged(last)
 }
 
 // An access over a view that was judged, with what the search for its first byte gave.
-fn route_at(
-    view: &[u64],
-    blocks: Blocks,
-    at: usize,
-    a: GuestAddress,
-    w: u64,
-) -> Result<Route, RouteFault>
-    requires judged { Judged view.now }
-    requires le_block { (8 ≤ blocks.size) × (length blocks.plugged.now ≡ table_length) }
-    requires spot { Spot (view_of view.now) a.0 at }
+fn route_at(guest: &Guest, at: usize, a: GuestAddress, w: u64) -> Result<Route, RouteFault>
+    requires { Spot (view_of guest.now.view) a.0 at }
     ensures { routed_by result
-        ≡ routed_in view.now blocks.entry.size blocks.entry.plugged.now a.0 w }
+        ≡ routed_in guest.now.view guest.now.blocks.size guest.now.blocks.plugged.now a.0 w }
 {
     if !width_ok(w) {
         return Err(RouteFault::Width);
     }
-    if count_of(view) <= at {
+    if guest.view.count() <= at {
         return Err(RouteFault::Hole);
     }
-    if !is_whole(view, at, a, w) {
+    if !is_whole(&guest.view, at, a, w) {
         return Err(RouteFault::Split);
     }
-    let range = range_at(view, at);
+    let range = guest.view.range(at);
     let offset = offset_in(range, a);
     if range.has_kind(Kind::Managed) {
-        if !blocks_plugged(blocks.size, blocks.plugged, offset, w) {
+        if !blocks_plugged(&guest.blocks, offset, w) {
             return Err(RouteFault::Unplugged);
         }
     }
@@ -138,34 +119,36 @@ fn route_at(
     Err(RouteFault::Record)
 }
 
-// The blocks to ask, after 27. A slice of another length is no device's record, 27 too. Without a device every block
+// What to ask, after 27. A slice of another length is no device's record, 27 too. Without a device every block
 // counts as unplugged, and 27 judges no region.
-fn judged_blocks<'a>(
-    view: &[u64],
+fn judged_guest<'v, 'd>(
+    view: &'v [u64],
     memory_length: u64,
-    device: Option<&'a [u64]>,
-) -> Result<Blocks<'a>, RecordFault>
+    device: Option<&'d [u64]>,
+) -> Result<Guest<'v, 'd>, RecordFault>
     ensures { Asked view.now memory_length (option_map (λ d. device_of d.now) device.entry) result }
 {
     let Some(device) = device else {
-        if !view_ok(view, memory_length, NO_REGION) {
+        let Some(view) = View::new(view, memory_length, NO_REGION) else {
             return Err(RecordFault);
-        }
-        return Ok(Blocks {
+        };
+        let blocks = Blocks {
             size: ANY_BLOCK_SIZE,
             plugged: &NONE_PLUGGED,
-        });
+        };
+        return Ok(Guest { view, blocks });
     };
-    if !device_ok(device) {
+    let Some(device) = valid(device) else {
         return Err(RecordFault);
-    }
-    if !view_ok(view, memory_length, region_size(device)) {
+    };
+    let Some(view) = View::new(view, memory_length, region_size(device)) else {
         return Err(RecordFault);
-    }
-    Ok(Blocks {
+    };
+    let blocks = Blocks {
         size: block_size(device),
         plugged: plugged(device),
-    })
+    };
+    Ok(Guest { view, blocks })
 }
 
 // An access with a device or without one.
@@ -180,9 +163,9 @@ pub fn route(
         ≡ routed_given (view_of view.now) memory_length
         (option_map (λ d. device_of d.now) device.entry) address.0 width }
 {
-    let blocks = judged_blocks(view, memory_length, device)?;
-    let at = near(view, 0, address);
-    route_at(view, blocks, at, address, width)
+    let guest = judged_guest(view, memory_length, device)?;
+    let at = guest.view.near(0, address);
+    route_at(&guest, at, address, width)
 }
 
 fn put_four(words: &mut [u64], at: usize, a: u64, b: u64, c: u64, d: u64)
@@ -210,19 +193,17 @@ fn put_answer(answers: &mut [u64], i: usize, answer: Result<Route, RouteFault>)
 }
 
 // Each access in turn, over a view that was judged. The range of the one before is tried first.
-fn routes_judged(view: &[u64], blocks: Blocks, accesses: &[u64], answers: &mut [u64])
-    requires judged { Judged view.now }
-    requires le_block { (8 ≤ blocks.size) × (length blocks.plugged.now ≡ table_length) }
-    requires answers_value { answers_fit accesses.now answers.old ≡ true }
+fn routes_judged(guest: &Guest, accesses: &[u64], answers: &mut [u64])
+    requires { answers_fit accesses.now answers.old ≡ true }
     ensures { answers.new
-        ≡ answers_of (routed_in view.now blocks.entry.size blocks.entry.plugged.now) accesses.now }
+        ≡ answers_of (routed_in guest.now.view guest.now.blocks.size guest.now.blocks.plugged.now) accesses.now }
 {
     let (pairs, _) = accesses.as_chunks::<2>();
     let mut at: usize = 0;
     for (i, access) in pairs.iter().enumerate() {
         let a = GuestAddress(access[0]);
-        at = near(view, at, a);
-        let answer = route_at(view, blocks, at, a, access[1]);
+        at = guest.view.near(at, a);
+        let answer = route_at(guest, at, a, access[1]);
         put_answer(answers, i, answer);
     }
 }
@@ -247,10 +228,10 @@ pub fn route_all(
         (option_map (λ d. device_of d.now) device.entry) accesses.now answers.old)
         (all_number result) answers.new }
 {
-    let blocks = judged_blocks(view, memory_length, device)?;
+    let guest = judged_guest(view, memory_length, device)?;
     if !answers_fit(accesses, answers) {
         return Err(RecordFault);
     }
-    routes_judged(view, blocks, accesses, answers);
+    routes_judged(&guest, accesses, answers);
     Ok(())
 }

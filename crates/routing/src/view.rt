@@ -3,14 +3,12 @@ ghost use Rattle.std.specs.Prelude.{◌≡◌};
 ghost use Rattle.map_records.specs.Words.{view_of};
 ghost use Rattle.routing.specs.Look.{looked_up, looked_by};
 
-use guest_view::find::near;
 use guest_view::place::offset_in;
-use guest_view::rules::view_ok;
+use guest_view::view::View;
 use map_check::answer::RecordFault;
 use map_records::map::{Found, GuestAddress};
 use map_records::numbers::LIMIT;
 use map_records::view::RANGES;
-use map_records::words::{count_of, range_at};
 
 // Given no device, 27 judges no region: no offset reaches the limit.
 pub const NO_REGION: u64 = LIMIT;
@@ -23,14 +21,14 @@ pub fn look_up(
 ) -> Result<Option<Found>, RecordFault>
     ensures { looked_by result ≡ looked_up (view_of view.now) memory_length address.0 }
 {
-    if !view_ok(view, memory_length, NO_REGION) {
+    let Some(view) = View::new(view, memory_length, NO_REGION) else {
         return Err(RecordFault);
-    }
-    let at = near(view, RANGES, address);
-    if count_of(view) <= at {
+    };
+    let at = view.near(RANGES, address);
+    if view.count() <= at {
         return Ok(None);
     }
-    let range = range_at(view, at);
+    let range = view.range(at);
     Ok(Some(Found {
         region: range.region,
         offset: offset_in(range, address),

@@ -12,11 +12,11 @@ use crate::number::read_number;
 use crate::regions::read_regions;
 use map_check::check::check_map;
 use map_records::map::REGIONS;
-use map_records::words::{MAP_WORDS, put_region_count};
+use map_records::words::{MAP_WORDS, MapWords, put_region_count};
 
 // The sheet's map, laid into words that are all zero: accepted, or the refusal.
-fn read_map(sheet: &[u8], memory_length: u64, map: &mut [u64]) -> Result<(), SheetFault>
-    requires { (length map.old ≡ map_length) × (map_of map.old ≡ blank_map 0) }
+fn read_map(sheet: &[u8], memory_length: u64, map: &mut MapWords) -> Result<(), SheetFault>
+    requires { map_of map.old ≡ blank_map 0 }
     ensures { ReadsMap (read_sheet sheet.now memory_length) result map.new }
 {
     let (count, next) = read_number(sheet, Cursor { at: 0 })?;

@@ -7,6 +7,5 @@ pub mod SecondHalf
 pub mod Unmanaged
 pub mod Calls
 pub mod Causes
-pub mod Lent
 pub mod Promises
 pub mod Worked

@@ -6,36 +6,38 @@ use Rattle.device_words.specs.Bytes.{request_length, response_length}
 use Rattle.map_records.specs.declared.view.FlatView.{FlatView}
 use Rattle.map_records.specs.Words.{view_of}
 use Rattle.device_words.specs.Device.{MemoryDevice, device_ok}
-use Rattle.device_words.specs.Words.{device_of, device_length}
+use Rattle.device_words.specs.Words.{device_of}
 use Rattle.guest_view.specs.Guest.{all_reach, byte_at, addresses, by_view}
 use Rattle.guest_view.specs.Guest as guest
-use Rattle.guest_view.specs.Promises.{Judged, Backed, InMemory, place_in}
+use Rattle.guest_view.specs.Promises.{Backed, InMemory, place_in}
 use Rattle.virtqueue.specs.Queue.{queue_ok, ring_entry, used_entry, used_idx, stop_number}
 use Rattle.virtqueue.specs.Chain.{Chain, Entry, out, here, end_of, is_writable, misplaced, reached, chain_at}
 use Rattle.virtqueue.specs.Step.{Way, halted, quiet, along, Offer, stop, nothing, ready, idx, flags, entry, offers, notifies, chain_of, request_bytes, response_places, offer_chain, offered, stepped_by, Effect}
-use Rattle.virtqueue.specs.Lent.{guest_in}
 use Rattle.virtqueue.specs.declared.chain.Gathered.{Gathered}
 use Rattle.virtqueue.specs.declared.chain.Descriptor.{Descriptor}
-use Rattle.virtqueue.specs.declared.guest.Guest.{Guest}
+use Rattle.virtqueue.specs.declared.lent.Lent.{Lent}
 use Rattle.virtqueue.specs.declared.queue.QueueStop.{QueueStop}
 use Rattle.virtqueue.specs.declared.queue.QueueStop.TheVariants as stops
 use Rattle.virtqueue.specs.declared.queue.SplitQueue.{SplitQueue}
 use Rattle.virtqueue.specs.declared.run.Ran.{Ran}
+use Rattle.virtqueue.specs.declared.step.Moved.{Moved}
 use Rattle.virtqueue.specs.declared.step.StepFault.TheVariants as fault
 use Rattle.virtqueue.specs.declared.take.Taken.{Taken}
 
--- the guest that the reading half of a step sees, and where its addresses lie in memory
-abbrev pub guest_of : Guest → guest.Guest
-guest_of g = guest_in g.view.now g.block g.plugged.now
+-- the guest through a view's words, with a device of a block size and a plug table
+abbrev pub guest_in : List ℕ → ℕ → List ℕ → guest.Guest
+guest_in view block plugged = guest.view_guest (view_of view) block plugged
 
-abbrev pub place_of : Guest → ℕ → ℕ
-place_of g = place_in (view_of g.view.now)
+-- the guest that the reading half of a step sees, and where its addresses lie in memory
+abbrev pub guest_of : Lent → guest.Guest
+guest_of g = guest_in g.guest.view g.guest.blocks.size g.guest.blocks.plugged.now
+
+abbrev pub place_of : Lent → ℕ → ℕ
+place_of g = place_in (view_of g.guest.view)
 
 -- what a step on records that were judged relies on
 pub record Stepping (view device mem : List ℕ) (q : SplitQueue) : Type 0 where
-  pub judged : Judged view
   pub backed : Backed (view_of view) (length mem)
-  pub words : length device ≡ device_length
   pub valid : device_ok (device_of device) ≡ true
   pub queue : queue_ok q ≡ true
 
@@ -146,22 +148,25 @@ TakesChain g memory q h r t =
     (λ e. offer_chain g q h notify (chain_of g memory q h) ≡ stop (stop_number e))
 
 -- one descriptor, what a chain gives up, and what is taken of a chain and in all, over what is lent
-abbrev pub VisitsIn : Guest → Descriptor → Gathered → Result Unit QueueStop → Gathered → Type 0
+abbrev pub VisitsIn : Lent → Descriptor → Gathered → Result Unit QueueStop → Gathered → Type 0
 VisitsIn g = Visits (place_of g) g.mem.now (reached (guest_of g))
 
-abbrev pub GathersIn : Guest → ℕ → ℕ → ℕ → Result Unit QueueStop → Gathered → Type 0
+abbrev pub GathersIn : Lent → ℕ → ℕ → ℕ → Result Unit QueueStop → Gathered → Type 0
 GathersIn g table size h = Gathers (place_of g) g.mem.now (chain_at (guest_of g) g.mem.now table size h)
 
-abbrev pub TakesIn : Guest → SplitQueue → ℕ → Result Unit QueueStop → Gathered → Type 0
-TakesIn g = TakesChain (guest_of g) g.mem.now
+abbrev pub TakesIn : Lent → ℕ → Result Unit QueueStop → Gathered → Type 0
+TakesIn g = TakesChain (guest_of g) g.mem.now g.queue
 
-abbrev pub TakesAll : Guest → SplitQueue → Result (Option Taken) QueueStop → Gathered → Type 0
-TakesAll g q = Takes (guest_of g) g.mem.now (offered (guest_of g) g.mem.now q)
+abbrev pub TakesAll : Lent → Result (Option Taken) QueueStop → Gathered → Type 0
+TakesAll g = Takes (guest_of g) g.mem.now (offered (guest_of g) g.mem.now g.queue)
 
 -- a step over words that 27 let pass
 abbrev pub stepped_in : List ℕ → List ℕ → SplitQueue → List ℕ → Effect MemoryDevice
 stepped_in view device q memory = stepped_by (by_view (view_of view) (device_of device)) (device_of device) q memory
 
--- a run on records that 27 refuses
+-- a step and a run on records that 27 refuses
+abbrev pub refused_step : SplitQueue → Moved
+refused_step q = record { outcome = Err fault.Record; queue = q }
+
 abbrev pub refused_run : SplitQueue → Ran
 refused_run q = record { served = 0; notified = false; end = Err fault.Record; queue = q }

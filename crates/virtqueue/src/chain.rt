@@ -7,12 +7,9 @@ ghost use Rattle.virtqueue.specs.Promises.{guest_of, place_of, entry_by};
 ghost use Rattle.virtqueue.specs.Promises.{nothing_yet, Filled, added, is_short, VisitsIn, GathersIn};
 ghost use Rattle.map_records.specs.Limits.{limit};
 
-use crate::guest::Guest;
+use crate::lent::Lent;
 use crate::queue::QueueStop;
 use device_words::bytes::{REQUEST_BYTES, RESPONSE_BYTES};
-use guest_view::find::near;
-use guest_view::memory::{find_places, read_bytes};
-use guest_view::reach::reaches;
 use map_records::map::GuestAddress;
 
 // A descriptor's flags, each a bit, tested by division as the definitions have it.
@@ -86,16 +83,18 @@ fn descriptor_of(bytes: [u8; DESCRIPTOR_BYTES]) -> Descriptor
 }
 
 // Entry i of a table, where its bytes are reachable.
-fn fetch(guest: &Guest, table: GuestAddress, i: u16) -> Option<Descriptor>
+fn fetch(lent: &Lent, table: GuestAddress, i: u16) -> Option<Descriptor>
     requires { table.0 ≤ limit }
-    ensures { entry_by result ≡ fetched (guest_of guest.now) guest.now.mem.now table.0 i }
+    ensures { entry_by result ≡ fetched (guest_of lent.now) lent.now.mem.now table.0 i }
 {
     let at = GuestAddress(table.0 + (DESCRIPTOR_BYTES as u64) * u64::from(i));
-    if !guest.reaches(at, DESCRIPTOR_BYTES as u64) {
+    if !lent.reaches(at, DESCRIPTOR_BYTES as u64) {
         return None;
     }
     let mut bytes = [0u8; DESCRIPTOR_BYTES];
-    read_bytes(guest.view, guest.mem, guest.hint, at, &mut bytes);
+    lent.guest
+        .view
+        .read_bytes(lent.mem, lent.hint, at, &mut bytes);
     Some(descriptor_of(bytes))
 }
 
@@ -140,74 +139,65 @@ impl Gathered {
 
     // What an accepted element adds: bytes of the request up to 24, or places for the response up to 10.
     // The hint is the range in which it begins.
-    fn add(&mut self, guest: &Guest, hint: usize, d: Descriptor)
-        requires in_memory { InMemory (view_of guest.now.view.now) d.addr.0 d.length }
+    fn add(&mut self, lent: &Lent, hint: usize, d: Descriptor)
+        requires in_memory { InMemory (view_of lent.now.guest.view) d.addr.0 d.length }
         requires filled { Filled self.old }
-        ensures { self.new ≡ added (place_of guest.now) guest.now.mem.now self.old d }
+        ensures { self.new ≡ added (place_of lent.now) lent.now.mem.now self.old d }
     {
         if d.is_writable() {
             let from = self.writable;
             let end = from + fitting(RESPONSE_BYTES - from, d.length);
-            find_places(guest.view, hint, d.addr, &mut self.places[from..end]);
+            lent.guest
+                .view
+                .find_places(hint, d.addr, &mut self.places[from..end]);
             self.writable = end;
             self.late = true;
             return;
         }
         let from = self.readable;
         let end = from + fitting(REQUEST_BYTES - from, d.length);
-        read_bytes(
-            guest.view,
-            guest.mem,
-            hint,
-            d.addr,
-            &mut self.request[from..end],
-        );
+        lent.guest
+            .view
+            .read_bytes(lent.mem, hint, d.addr, &mut self.request[from..end]);
         self.readable = end;
         self.late = false;
     }
 
     // One descriptor: INDIRECT, readable late, 21, and what it adds.
-    fn visit(&mut self, guest: &Guest, d: Descriptor) -> Result<(), QueueStop>
+    fn visit(&mut self, lent: &Lent, d: Descriptor) -> Result<(), QueueStop>
         requires { Filled self.old }
-        ensures { VisitsIn guest.now d self.old result self.new }
+        ensures { VisitsIn lent.now d self.old result self.new }
     {
         if d.is_misplaced(self.late) {
             return Err(QueueStop::Chain);
         }
-        let there = near(guest.view, guest.hint, d.addr);
-        if !reaches(
-            guest.view,
-            guest.block,
-            guest.plugged,
-            there,
-            d.addr,
-            u64::from(d.length),
-        ) {
+        let there = lent.guest.view.near(lent.hint, d.addr);
+        if !lent.guest.reaches(there, d.addr, u64::from(d.length)) {
             return Err(QueueStop::Reach);
         }
-        self.add(guest, there, d);
+        self.add(lent, there, d);
         Ok(())
     }
 
     // The chain that starts at a head of a table: per descriptor 17, what `visit` says, next or length.
     pub fn gather(
         &mut self,
-        guest: &Guest,
+        lent: &Lent,
         table: GuestAddress,
         size: u16,
         head: u16,
     ) -> Result<(), QueueStop>
         requires begun { self.old ≡ nothing_yet }
         requires table { (table.0 ≤ limit) × (head < size) }
-        ensures { GathersIn guest.now table.0 size head result self.new }
+        ensures { GathersIn lent.now table.0 size head result self.new }
     {
         // A loop: each descriptor names the next, and the first that ends the chain leaves it.
         let mut i = head;
         for _passed in 0..size {
-            let Some(d) = fetch(guest, table, i) else {
+            let Some(d) = fetch(lent, table, i) else {
                 return Err(QueueStop::Ring);
             };
-            self.visit(guest, d)?;
+            self.visit(lent, d)?;
             if !d.has_next() {
                 return Ok(());
             }

@@ -1,27 +1,60 @@
 // One step of the queue, with the device changed where it lies.
-ghost use Rattle.std.specs.Prelude.{◌≡◌};
+ghost use Rattle.std.specs.Prelude.{◌≡◌, true, false, MatchOption};
 ghost use Rattle.map_records.specs.Words.{view_of};
 ghost use Rattle.device_words.specs.Words.{device_of};
 ghost use Rattle.virtqueue.specs.Step.{records_ok, stepped};
 ghost use Rattle.virtqueue.specs.Does.{DoesIn};
+ghost use Rattle.virtqueue.specs.Promises.{refused_step};
 
 use crate::queue::SplitQueue;
 use crate::serve::step_judged;
 use crate::step::{Moved, StepFault};
 use device_words::rules::device_ok;
-use device_words::words::{DEVICE_WORDS, region_size};
-use guest_view::find::near;
-use guest_view::rules::view_ok;
+use device_words::words::{DeviceWords, region_size};
+use guest_view::view::View;
+
+// The view, where the three records keep 27's rules over a memory of this length.
+pub fn judged_view<'a>(
+    view: &'a [u64],
+    device: &DeviceWords,
+    queue: SplitQueue,
+    memory_length: u64,
+) -> Option<View<'a>>
+    ensures { MatchOption result
+        (records_ok (view_of view.now) (device_of device.now) queue memory_length ≡ false)
+        (λ v. (v ≡ view.now)
+        × (records_ok (view_of view.now) (device_of device.now) queue memory_length ≡ true)) }
+{
+    let Some(view) = View::new(view, memory_length, region_size(device)) else {
+        return None;
+    };
+    if !(device_ok(device) & queue.keeps_rules()) {
+        return None;
+    }
+    Some(view)
+}
 
 // Do the three records keep 27's rules, over a memory of this length?
 pub fn records_ok(view: &[u64], device: &[u64], queue: SplitQueue, memory_length: u64) -> bool
     ensures { result ≡ records_ok (view_of view.now) (device_of device.now) queue memory_length }
 {
-    if device.len() != DEVICE_WORDS {
+    let Some(device) = device.as_array() else {
         return false;
+    };
+    let Some(_view) = judged_view(view, device, queue, memory_length) else {
+        return false;
+    };
+    true
+}
+
+// A step on records that 27 refuses.
+fn refused(queue: SplitQueue) -> Moved
+    ensures { result ≡ refused_step queue }
+{
+    Moved {
+        outcome: Err(StepFault::Record),
+        queue,
     }
-    let region = region_size(device);
-    view_ok(view, memory_length, region) & (device_ok(device) & queue.keeps_rules())
 }
 
 // Takes the next chain, if there is one, carries its request out and returns it.
@@ -30,12 +63,12 @@ pub fn step_in_place(view: &[u64], device: &mut [u64], queue: SplitQueue, mem: &
         (stepped (view_of view.now) (device_of device.old) queue mem.old)
         result device.new mem.new }
 {
-    if records_ok(view, device, queue, mem.len() as u64) {
-        let hint = near(view, 0, queue.available);
-        return step_judged(view, device, queue, mem, hint);
-    }
-    Moved {
-        outcome: Err(StepFault::Record),
-        queue,
-    }
+    let Some(device) = device.as_mut_array() else {
+        return refused(queue);
+    };
+    let Some(view) = judged_view(view, device, queue, mem.len() as u64) else {
+        return refused(queue);
+    };
+    let hint = view.near(0, queue.available);
+    step_judged(&view, device, queue, mem, hint)
 }

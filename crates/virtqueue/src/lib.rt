@@ -2,8 +2,8 @@
 #![tactic(auto)]
 
 mod chain;
-mod guest;
 pub mod in_place;
+pub mod lent;
 pub mod queue;
 mod ring;
 pub mod run;

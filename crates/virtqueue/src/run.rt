@@ -5,11 +5,10 @@ ghost use Rattle.device_words.specs.Words.{device_of};
 ghost use Rattle.virtqueue.specs.Run.{RunDoes, ran};
 ghost use Rattle.virtqueue.specs.Promises.{refused_run};
 
-use crate::in_place::records_ok;
+use crate::in_place::judged_view;
 use crate::queue::SplitQueue;
 use crate::serve::step_judged;
 use crate::step::{Moved, StepFault};
-use guest_view::find::near;
 
 // The most steps of a run.
 const STEPS: u64 = 256;
@@ -48,9 +47,12 @@ pub fn run_steps(view: &[u64], device: &mut [u64], queue: SplitQueue, mem: &mut 
         (ran (view_of view.now) (device_of device.old) queue mem.old k)
         result device.new mem.new }
 {
-    if !records_ok(view, device, queue, mem.len() as u64) {
+    let Some(device) = device.as_mut_array() else {
         return refused_run(queue);
-    }
+    };
+    let Some(view) = judged_view(view, device, queue, mem.len() as u64) else {
+        return refused_run(queue);
+    };
     let mut ran = Ran {
         served: 0,
         notified: false,
@@ -58,10 +60,10 @@ pub fn run_steps(view: &[u64], device: &mut [u64], queue: SplitQueue, mem: &mut 
         queue,
     };
     let most = k.min(STEPS);
-    let hint = near(view, 0, queue.available);
+    let hint = view.near(0, queue.available);
     // A loop: each step goes on from what the one before left, and the first that is not served ends it.
     for _done in 0..most {
-        let Moved { outcome, queue } = step_judged(view, device, ran.queue, mem, hint);
+        let Moved { outcome, queue } = step_judged(&view, device, ran.queue, mem, hint);
         ran.queue = queue;
         match outcome {
             Ok(Some(chain)) => {

@@ -1,10 +1,9 @@
 // The writing half of a step, and the step on records that were judged.
-ghost use Rattle.std.specs.Prelude.{◌≡◌, ◌<◌, true, length};
+ghost use Rattle.std.specs.Prelude.{◌≡◌, true, length};
 ghost use Rattle.device_words.specs.Promises.{Sized};
 ghost use Rattle.map_records.specs.Words.{view_of};
-ghost use Rattle.guest_view.specs.Promises.{Judged, Within, place_in};
-ghost use Rattle.device_words.specs.Words.{device_of, device_words, device_length};
-ghost use Rattle.virtqueue.specs.Queue.{queue_ok};
+ghost use Rattle.guest_view.specs.Promises.{Within, place_in};
+ghost use Rattle.device_words.specs.Words.{device_of, device_words};
 ghost use Rattle.virtqueue.specs.Step.{used_places, used_bytes, carrying, served_memory};
 ghost use Rattle.virtqueue.specs.Does.{DoesIn};
 ghost use Rattle.virtqueue.specs.Promises.{UsedIn, Stepping, stepped_in};
@@ -12,31 +11,33 @@ ghost use Rattle.device_words.specs.Bytes.{response_length};
 ghost use Rattle.device_words.specs.Device.{sizes_of};
 
 use crate::chain::Gathered;
-use crate::guest::Guest;
+use crate::lent::Lent;
 use crate::queue::SplitQueue;
 use crate::ring::{used_entry, used_idx};
 use crate::step::{Moved, Served, StepFault};
 use crate::take::take;
 use device_words::answer::respond;
 use device_words::bytes::{REQUEST_BYTES, RESPONSE_BYTES};
-use device_words::words::{block_size, plugged};
-use guest_view::memory::{find_places, write_bytes};
+use device_words::words::{DeviceWords, block_size, plugged};
+use guest_view::memory::write_bytes;
+use guest_view::reach::{Blocks, Guest};
+use guest_view::view::View;
 
 // The used ring's bytes that a step writes: the slot's eight, and idx's two.
 const USED_BYTES: usize = 10;
 
-// Their places: the slot's, then idx's. Through the view alone: the memory is written next, so it is not lent.
-fn used_places(view: &[u64], queue: SplitQueue, hint: usize) -> [usize; USED_BYTES]
-    requires judged { Judged view.now }
-    requires queue_value { queue_ok queue ≡ true }
-    requires used_in { UsedIn (view_of view.now) queue }
-    ensures { result ≡ used_places (place_in (view_of view.now)) queue }
+// Their places: the slot's, then idx's.
+fn used_places(lent: &Lent) -> [usize; USED_BYTES]
+    requires { UsedIn (view_of lent.now.guest.view) lent.now.queue }
+    ensures { result ≡ used_places (place_in (view_of lent.now.guest.view)) lent.now.queue }
 {
+    let queue = lent.queue;
+    let view = &lent.guest.view;
     let entry = used_entry(queue.used, queue.next_used, queue.size);
     let idx = used_idx(queue.used);
     let mut out = [0; USED_BYTES];
-    find_places(view, hint, entry, &mut out[0..8]);
-    find_places(view, hint, idx, &mut out[8..USED_BYTES]);
+    view.find_places(lent.hint, entry, &mut out[0..8]);
+    view.find_places(lent.hint, idx, &mut out[8..USED_BYTES]);
     out
 }
 
@@ -52,14 +53,14 @@ fn used_bytes(head: u16, count: u16) -> [u8; USED_BYTES]
 
 // The request is carried out where the device lies; then its response is written, then the used ring.
 fn serve(
-    device: &mut [u64],
+    device: &mut DeviceWords,
     mem: &mut [u8],
     request: [u8; REQUEST_BYTES],
     places: &[usize],
     used: &[usize],
     bytes: &[u8],
 )
-    requires device_len { (length device.old ≡ device_length) × Sized (sizes_of (device_of device.old)) }
+    requires sized { Sized (sizes_of (device_of device.old)) }
     requires places_len { (length places.now ≡ response_length) × Within places.now (length mem.old) }
     requires used_len { (length used.now ≡ length bytes.now) × Within used.now (length mem.old) }
     ensures { (device.new ≡ device_words (carrying (device_of device.old) request).device)
@@ -73,8 +74,8 @@ fn serve(
 
 // One step on records that keep 27's rules. The device is changed where it lies, once, by the request.
 pub fn step_judged(
-    view: &[u64],
-    device: &mut [u64],
+    view: &View,
+    device: &mut DeviceWords,
     queue: SplitQueue,
     mem: &mut [u8],
     hint: usize,
@@ -85,14 +86,21 @@ pub fn step_judged(
         result device.new mem.new }
 {
     let mut chain = Gathered::begun();
-    let guest = Guest {
-        view,
-        block: block_size(device),
+    let blocks = Blocks {
+        size: block_size(device),
         plugged: plugged(device),
+    };
+    let guest = Guest {
+        view: view.again(),
+        blocks,
+    };
+    let lent = Lent {
+        guest,
         mem,
+        queue,
         hint,
     };
-    match take(&guest, queue, &mut chain) {
+    match take(&lent, &mut chain) {
         Err(stop) => Moved {
             outcome: Err(StepFault::Stopped(stop)),
             queue: queue.stopped_by(stop),
@@ -102,7 +110,7 @@ pub fn step_judged(
             queue,
         },
         Ok(Some(taken)) => {
-            let used = used_places(view, queue, hint);
+            let used = used_places(&lent);
             let bytes = used_bytes(taken.head, queue.next_used);
             serve(device, mem, chain.request, &chain.places, &used, &bytes);
             Moved {

@@ -1,12 +1,11 @@
 // The reading half of a step, in document 01's order.
 ghost use Rattle.std.specs.Prelude.{◌≡◌, ◌<◌, true};
-ghost use Rattle.virtqueue.specs.Queue.{queue_ok};
 ghost use Rattle.virtqueue.specs.Step.{used_reached};
 ghost use Rattle.virtqueue.specs.Promises.{guest_of, nothing_yet, notices_of, head_of, TakesIn, TakesAll};
 
 use crate::chain::Gathered;
-use crate::guest::Guest;
-use crate::queue::{QueueStop, SplitQueue};
+use crate::lent::Lent;
+use crate::queue::QueueStop;
 use crate::ring::{ring_entry, used_entry, used_idx};
 use map_records::map::GuestAddress;
 
@@ -18,16 +17,16 @@ pub struct Taken {
 }
 
 // Available flags and idx, and the distance: whether to notify, or none where nothing is offered.
-fn notices(guest: &Guest, queue: SplitQueue) -> Result<Option<bool>, QueueStop>
-    requires { queue_ok queue ≡ true }
-    ensures { result ≡ notices_of (guest_of guest.now) guest.now.mem.now queue }
+fn notices(lent: &Lent) -> Result<Option<bool>, QueueStop>
+    ensures { result ≡ notices_of (guest_of lent.now) lent.now.mem.now lent.now.queue }
 {
+    let queue = lent.queue;
     let ring = queue.available;
-    if !guest.reaches(ring, 4) {
+    if !lent.reaches(ring, 4) {
         return Err(QueueStop::Ring);
     }
-    let flags = guest.number(ring);
-    let idx = guest.number(GuestAddress(ring.0 + 2));
+    let flags = lent.number(ring);
+    let idx = lent.number(GuestAddress(ring.0 + 2));
     if idx == queue.next_available {
         return Ok(None);
     }
@@ -39,15 +38,15 @@ fn notices(guest: &Guest, queue: SplitQueue) -> Result<Option<bool>, QueueStop>
 }
 
 // The ring entry at seen mod n.
-fn head(guest: &Guest, queue: SplitQueue) -> Result<u16, QueueStop>
-    requires { queue_ok queue ≡ true }
-    ensures { result ≡ head_of (guest_of guest.now) guest.now.mem.now queue }
+fn head(lent: &Lent) -> Result<u16, QueueStop>
+    ensures { result ≡ head_of (guest_of lent.now) lent.now.mem.now lent.now.queue }
 {
+    let queue = lent.queue;
     let entry = ring_entry(queue.available, queue.next_available, queue.size);
-    if !guest.reaches(entry, 2) {
+    if !lent.reaches(entry, 2) {
         return Err(QueueStop::Ring);
     }
-    let number = guest.number(entry);
+    let number = lent.number(entry);
     if number < queue.size {
         return Ok(number);
     }
@@ -55,54 +54,43 @@ fn head(guest: &Guest, queue: SplitQueue) -> Result<u16, QueueStop>
 }
 
 // Are the used element and the used idx reachable?
-fn used_reached(guest: &Guest, queue: SplitQueue) -> bool
-    requires { queue_ok queue ≡ true }
-    ensures { result ≡ used_reached (guest_of guest.now) queue }
+fn used_reached(lent: &Lent) -> bool
+    ensures { result ≡ used_reached (guest_of lent.now) lent.now.queue }
 {
+    let queue = lent.queue;
     let entry = used_entry(queue.used, queue.next_used, queue.size);
     let idx = used_idx(queue.used);
-    guest.reaches(entry, 8) & guest.reaches(idx, 2)
+    lent.reaches(entry, 8) & lent.reaches(idx, 2)
 }
 
 // The chain from a head on, its shape, and the used ring.
-fn take_chain(
-    guest: &Guest,
-    queue: SplitQueue,
-    head: u16,
-    chain: &mut Gathered,
-) -> Result<(), QueueStop>
-    requires queue_value { queue_ok queue ≡ true }
-    requires head_lt_size { head < queue.size }
+fn take_chain(lent: &Lent, head: u16, chain: &mut Gathered) -> Result<(), QueueStop>
+    requires head_lt_size { head < lent.now.queue.size }
     requires begun { chain.old ≡ nothing_yet }
-    ensures { TakesIn guest.now queue head result chain.new }
+    ensures { TakesIn lent.now head result chain.new }
 {
-    chain.gather(guest, queue.descriptors, queue.size, head)?;
+    chain.gather(lent, lent.queue.descriptors, lent.queue.size, head)?;
     if chain.is_short() {
         return Err(QueueStop::Shape);
     }
-    if !used_reached(guest, queue) {
+    if !used_reached(lent) {
         return Err(QueueStop::Ring);
     }
     Ok(())
 }
 
 // All that a step reads; none where nothing is offered.
-pub fn take(
-    guest: &Guest,
-    queue: SplitQueue,
-    chain: &mut Gathered,
-) -> Result<Option<Taken>, QueueStop>
-    requires queue_value { queue_ok queue ≡ true }
+pub fn take(lent: &Lent, chain: &mut Gathered) -> Result<Option<Taken>, QueueStop>
     requires begun { chain.old ≡ nothing_yet }
-    ensures { TakesAll guest.now queue result chain.new }
+    ensures { TakesAll lent.now result chain.new }
 {
-    if let Some(stop) = queue.stopped() {
+    if let Some(stop) = lent.queue.stopped() {
         return Err(stop);
     }
-    let Some(notify) = notices(guest, queue)? else {
+    let Some(notify) = notices(lent)? else {
         return Ok(None);
     };
-    let head = head(guest, queue)?;
-    take_chain(guest, queue, head, chain)?;
+    let head = head(lent)?;
+    take_chain(lent, head, chain)?;
     Ok(Some(Taken { head, notify }))
 }

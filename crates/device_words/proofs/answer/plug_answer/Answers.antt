@@ -18,10 +18,10 @@ pub returns-then-not-none_set : goal.returns-then-not-none_set
 returns-then-not-none_set c = rw (← some_is _ _ _ c.none_set.ensures, c.if-not-none_set.true)
 
 pub overflow_mul-size : goal.overflow_mul-size
-overflow_mul-size c = omega (arith, size_bound c.args.run.count c.args.sizes.block_size (omega (arith, c.args.run.room)) c.requires.0.most)
+overflow_mul-size c = omega (arith, size_bound c.args.run.count c.args.sizes.block_size (omega (arith, c.args.run.room)) c.requires.most)
 
 pub overflow_add-size : goal.overflow_add-size
-overflow_add-size c = omega (arith, c.plugged_size.ensures.1, size_bound c.args.run.count c.args.sizes.block_size (omega (arith, c.args.run.room)) c.requires.0.most)
+overflow_add-size c = omega (arith, c.plugged_size.ensures.1, size_bound c.args.run.count c.args.sizes.block_size (omega (arith, c.args.run.room)) c.requires.most)
 
 pub returns-then-sizes-size : goal.returns-then-sizes-size
 returns-then-sizes-size c = rw (← some_is _ _ _ c.none_set.ensures, c.if-not-none_set.false, ← c.plugged_size.ensures.0, lt-ltb _ _ c.if-sizes-size.true)

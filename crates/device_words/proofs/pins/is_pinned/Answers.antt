@@ -14,4 +14,4 @@ returns-then-from-lt-BLOCKS-clause-value c = let a = c.args in c.any_pinned.ensu
 
 pub returns-else-from-lt-BLOCKS-clause-value : goal.returns-else-from-lt-BLOCKS-clause-value
 returns-else-from-lt-BLOCKS-clause-value c = let w = c.args.device.now in
-    le-ltb c.from.result 1024 c.if-from-lt-BLOCKS.false ∙ sym (past_bit (device_at w).pinned c.args.b.0 (pins_length w c.requires) (omega arith))
+    le-ltb c.from.result 1024 c.if-from-lt-BLOCKS.false ∙ sym (past_bit (device_at w).pinned c.args.b.0 (pins_length w c.told-device) (omega arith))

@@ -8,4 +8,4 @@ use Rattle.device_words.proofs.pins.set_pin.Goals as goal
 
 pub returns : goal.returns
 returns c = let w = c.args.device.now in
-    ap (λ (t : List ℕ). take 21 w ++ (t ++ drop 16 (drop 21 w))) c.with_run.ensures ∙ pins_stored w _ c.requires.0
+    ap (λ (t : List ℕ). take 21 w ++ (t ++ drop 16 (drop 21 w))) c.with_run.ensures ∙ pins_stored w _ c.told-device

@@ -15,4 +15,4 @@ returns c = let a = c.args in
     all_from_yields_List (λ p. eqb (bit_and p.0 p.1) p.0) c.all.new.self _ c.all.result c.all.ensures.ran
     (YieldsList-from_zip (YieldsList-at c.zip.ensures.first (YieldsList-from_slice a.words.now (cc))) (YieldsList-from_slice a.whole.now (cc)))
     (λ x b q k. search (rules, tests))
-    ∙ words_part a.words.now a.whole.now (record { size = c.requires.0; words = λ j p. search rules }) (record { size = c.requires.1; words = λ j p. search rules })
+    ∙ words_part a.words.now a.whole.now (record { size = c.told-words; words = λ j p. search rules }) (record { size = c.told-whole; words = λ j p. search rules })

@@ -17,4 +17,4 @@ returns c =
     all_from_yields_List (λ i. eqb (turned_word a.words.now run.first.0 run.count a.on i) (get_or a.words.now i 0)) _ _ c.all.result c.all.ensures.ran
     (YieldsList-from_range c.words.result.start c.words.result.end (c.words.result.end - c.words.result.start) refl refl)
     (λ x b q k. search (rules, tests))
-    ∙ run_words a.words.now run.first.0 run.count a.on _ _ c.words.ensures.start c.words.ensures.end (record { size = c.requires; words = λ j p. search rules }) run.room
+    ∙ run_words a.words.now run.first.0 run.count a.on _ _ c.words.ensures.start c.words.ensures.end (record { size = c.told-words; words = λ j p. search rules }) run.room

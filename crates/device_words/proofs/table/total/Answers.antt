@@ -13,11 +13,11 @@ pub sum-requires-clause-fits : goal.sum-requires-clause-fits
 sum-requires-clause-fits c = let t = c.args.words.now in
     fits_by_from_yields_list (λ w. bits_in w 64) t c.map.result _
     (YieldsList-from_map _ (λ w. bits_in w 64) (YieldsList-at c.map.ensures.source (YieldsList-from_slice t (cc))) c.map.ensures.closure (λ x r q k. search rules))
-    (omega (arith, sum_bound t, c.requires))
+    (omega (arith, sum_bound t, c.told-words))
 
 pub returns : goal.returns
 returns c = let t = c.args.words.now in
     let value : c.sum.result ≡ sum_by (λ w. bits_in w 64) t =
     sum_by_from_yields_List (λ w. bits_in w 64) t c.map.result c.sum.result c.sum.ensures.ran
     (YieldsList-from_map _ (λ w. bits_in w 64) (YieldsList-at c.map.ensures.source (YieldsList-from_slice t (cc))) c.map.ensures.closure (λ x r q k. search rules)) in
-    (value ∙ sym (set_sum t) ∙ ap (set_in t) c.requires, omega (arith, value, sum_bound t, c.requires))
+    (value ∙ sym (set_sum t) ∙ ap (set_in t) c.told-words, omega (arith, value, sum_bound t, c.told-words))

@@ -10,7 +10,7 @@ use Rattle.device_words.proofs.table.with_run.Goals as goal
 pub loop-i-init : goal.loop-i-init
 loop-i-init c = let a = c.args in
     rw (c.into_iter-i-iterator.ensures.into_iter_gives, c.words-i-items.ensures.start, c.words-i-items.ensures.end)
-    (refl, omega (arith, a.run.room), turned_none a.words.now a.run.first.0 a.run.count a.on (record { size = c.requires; words = λ j p. search rules }))
+    (refl, omega arith, omega (arith, a.run.room), turned_none a.words.now a.run.first.0 a.run.count a.on (record { size = c.requires; words = λ j p. search rules }))
 
 pub loop-i-preserved : goal.loop-i-preserved
 loop-i-preserved c = let a = c.args in
@@ -19,7 +19,8 @@ loop-i-preserved c = let a = c.args in
     let i = c.in-Some.i in
     let here : i ≡ at.i-iterator.start = omega (arith, step) in
     let up : c.next.new.self.start ≡ i + 1 = omega (arith, step) in
-    let so_far = subst (λ (x : ℕ). Turned a.words.now at.words a.run.first.0 a.run.count a.on x) (sym here) at.invariant.2 in (
+    let so_far = subst (λ (x : ℕ). Turned a.words.now at.words a.run.first.0 a.run.count a.on x) (sym here) at.invariant.3 in (
+      omega (arith, step),
       omega (arith, step),
       omega (arith, step),
       subst (λ (x : ℕ). Turned a.words.now (set at.words i c.turned.result) a.run.first.0 a.run.count a.on x) (sym up)
@@ -29,4 +30,4 @@ loop-i-preserved c = let a = c.args in
 pub returns : goal.returns
 returns c = let a = c.args in
     let at = c.loop-i in
-    turned_end a.words.now at.words a.run.first.0 a.run.count a.on at.i-iterator.start (omega (arith, c.in-None.ensures.steps)) at.invariant.2
+    turned_end a.words.now at.words a.run.first.0 a.run.count a.on at.i-iterator.start (omega (arith, c.in-None.ensures.steps)) at.invariant.3

@@ -5,4 +5,4 @@ use Rattle.device_words.proofs.DeviceWords.{device_at_lem}
 use Rattle.device_words.proofs.words.block_size.Goals as goal
 
 pub returns : goal.returns
-returns c = sym (ap (λ (d : MemoryDevice). d.block_size) (device_at_lem c.args.device.now c.requires))
+returns c = sym (ap (λ (d : MemoryDevice). d.block_size) (device_at_lem c.args.device.now c.told-device))

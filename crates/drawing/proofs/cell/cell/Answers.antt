@@ -20,23 +20,19 @@ size_read m r n e k = ap (λ (x : Region). x.size) e ∙ ap (λ (i : ℕ). (regi
 column_read : (m : RegionMap) (size a c : ℕ) → size ≡ root_size m → a ≡ column_address size c → a ≡ column_address (root_size m) c
 column_read m size a c e p = p ∙ ap (λ (s : ℕ). column_address s c) e
 
-pub region_count-requires : goal.region_count-requires
-region_count-requires c = c.requires.0.drawable.words
+pub overflow_sub-count : goal.overflow_sub-count
+overflow_sub-count c = omega (arith, c.count.ensures.count, c.count.ensures.climbable.some)
 
-pub overflow_sub-region_count : goal.overflow_sub-region_count
-overflow_sub-region_count c = omega (arith, c.region_count.ensures, c.requires.0.drawable.climbable.some)
-
-pub region_at-size-requires : goal.region_at-size-requires
-region_at-size-requires c =
-    let p = c.requires.0.drawable in
-    (p.words, omega (arith, c.region_count.ensures, p.climbable.some, p.climbable.count))
+pub region-size-requires : goal.region-size-requires
+region-size-requires c =
+    omega (arith, c.count.ensures.count, c.count.ensures.climbable.some)
 
 pub column_address-address-requires : goal.column_address-address-requires
 column_address-address-requires c =
     let m = map_of c.args.map.now in
     let p = c.requires in
-    let size = size_read m _ _ c.region_at-size.ensures c.region_count.ensures in
-    (omega (arith, size, p.0.drawable.climbable.size), omega (arith, p.1))
+    let size = size_read m _ _ c.region-size.ensures.region c.count.ensures.count in
+    (omega (arith, size, c.count.ensures.climbable.size), omega (arith, p.1))
 
 pub overflow_add-c : goal.overflow_add-c
 overflow_add-c c = omega (arith, c.requires.1)
@@ -45,32 +41,29 @@ pub column_address-next-requires : goal.column_address-next-requires
 column_address-next-requires c =
     let m = map_of c.args.map.now in
     let p = c.requires in
-    let size = size_read m _ _ c.region_at-size.ensures c.region_count.ensures in
-    (omega (arith, size, p.0.drawable.climbable.size), omega (arith, p.1))
+    let size = size_read m _ _ c.region-size.ensures.region c.count.ensures.count in
+    (omega (arith, size, c.count.ensures.climbable.size), omega (arith, p.1))
 
 pub address_cell-requires : goal.address_cell-requires
 address_cell-requires c =
     let m = map_of c.args.map.now in
     let p = c.requires in
-    let size = size_read m _ _ c.region_at-size.ensures c.region_count.ensures in
-    (omega (arith, size, p.0.drawable.climbable.size), p.1)
+    let size = size_read m _ _ c.region-size.ensures.region c.count.ensures.count in
+    (omega (arith, size, c.count.ensures.climbable.size), p.1)
 
 pub region_cell-requires : goal.region_cell-requires
 region_cell-requires c =
     let m = map_of c.args.map.now in
     let p = c.requires in
-    let h : c.in-Region.n < m.count = rw c.in-Region.is at p.0.within in
-    let size = size_read m _ _ c.region_at-size.ensures c.region_count.ensures in
-    let first = column_read m c.region_at-size.result.size c.column_address-address.result.0 c.args.c size c.column_address-address.ensures in
-    (p.0.drawable, h, omega (arith, first, column_small (root_size m) c.args.c p.0.drawable.climbable.size (omega (arith, p.1))))
-
-pub answer_cell-requires : goal.answer_cell-requires
-answer_cell-requires c = c.requires.0.accepted
+    let h : c.in-Region.n < m.count = rw c.in-Region.is at p.0 in
+    let size = size_read m _ _ c.region-size.ensures.region c.count.ensures.count in
+    let first = column_read m c.region-size.result.size c.column_address-address.result.0 c.args.c size c.column_address-address.ensures in
+    (h, omega (arith, first, column_small (root_size m) c.args.c c.count.ensures.climbable.size (omega (arith, p.1))))
 
 pub returns-in-Addresses : goal.returns-in-Addresses
 returns-in-Addresses c =
     let m = map_of c.args.map.now in
-    let size = size_read m _ _ c.region_at-size.ensures c.region_count.ensures in
+    let size = size_read m _ _ c.region-size.ensures.region c.count.ensures.count in
     rw c.in-Addresses.is (c.address_cell.ensures ∙ ap (λ (x : ℕ). address_cell x c.args.c) size)
 
 pub returns-in-Ruler : goal.returns-in-Ruler
@@ -79,14 +72,14 @@ returns-in-Ruler c = rw c.in-Ruler.is c.ruler_cell.ensures
 pub returns-in-Region : goal.returns-in-Region
 returns-in-Region c =
     let m = map_of c.args.map.now in
-    let size = size_read m _ _ c.region_at-size.ensures c.region_count.ensures in
-    let first = column_read m c.region_at-size.result.size c.column_address-address.result.0 c.args.c size c.column_address-address.ensures in
-    let next = column_read m c.region_at-size.result.size c.column_address-next.result.0 (c.args.c + 1) size c.column_address-next.ensures in
+    let size = size_read m _ _ c.region-size.ensures.region c.count.ensures.count in
+    let first = column_read m c.region-size.result.size c.column_address-address.result.0 c.args.c size c.column_address-address.ensures in
+    let next = column_read m c.region-size.result.size c.column_address-next.result.0 (c.args.c + 1) size c.column_address-next.ensures in
     rw c.in-Region.is (region_at_lem m c.in-Region.n c.args.c _ _ _ _ _ c.region_cell.ensures first next)
 
 pub returns-in-FlatView : goal.returns-in-FlatView
 returns-in-FlatView c =
     let m = map_of c.args.map.now in
-    let size = size_read m _ _ c.region_at-size.ensures c.region_count.ensures in
-    let first = column_read m c.region_at-size.result.size c.column_address-address.result.0 c.args.c size c.column_address-address.ensures in
+    let size = size_read m _ _ c.region-size.ensures.region c.count.ensures.count in
+    let first = column_read m c.region-size.result.size c.column_address-address.result.0 c.args.c size c.column_address-address.ensures in
     rw c.in-FlatView.is (c.answer_cell.ensures ∙ ap (λ (x : ℕ). answer_cell (walk_root m x)) first)

@@ -5,18 +5,18 @@ use mathlib.Core.Path.{◌∙◌, sym, ap, ap₂}
 use native.Mathlib.Omega.{arith}
 use Rattle.drawing.proofs.position.+locate.Goals as goal
 
-pub returns-then-n-region_count : goal.returns-then-n-region_count
-returns-then-n-region_count t c =
-    c.enter.ensures ∙ ap₂ (entered _) c.root_offset.ensures c.root_offset-then-n-region_count.ensures
+pub returns-then-n-count : goal.returns-then-n-count
+returns-then-n-count t c =
+    c.enter.ensures ∙ ap₂ (entered _) c.root_offset.ensures c.root_offset-then-n-count.ensures
     ∙ sym
-    (located_root _ _ _ c.requires.0.climbable _ _ c.region_at-region.ensures (omega (arith, c.in_default.ensures))
-    (c.if-n-region_count.true ∙ c.region_count.ensures))
+    (located_root _ _ _ c.region-region.ensures.climbable _ _ c.region-region.ensures.region (omega (arith, c.in_default.ensures))
+    (c.if-n-count.true ∙ c.count.ensures.count))
 
 pub returns-in_default : goal.returns-in_default
 returns-in_default t c =
     sym
-    (located_aside _ _ _ c.requires.0.climbable _ _ c.region_at-region.ensures (omega (arith, c.in_default.ensures))
-    (λ z. c.if-n-region_count.false (z ∙ sym c.region_count.ensures)))
+    (located_aside _ _ _ c.region-region.ensures.climbable _ _ c.region-region.ensures.region (omega (arith, c.in_default.ensures))
+    (λ z. c.if-n-count.false (z ∙ sym c.count.ensures.count)))
 
 pub returns-in-Inside : goal.returns-in-Inside
 returns-in-Inside t c =
@@ -24,7 +24,7 @@ returns-in-Inside t c =
     let e = rw up.1 at c.locate.ensures in
     c.enter-in-Inside.ensures
     ∙ sym
-    (located_below _ _ _ c.requires.0.climbable _ _ c.region_at-region.ensures c.requires.1 (λ z. omega (arith, up.0))
+    (located_below _ _ _ c.region-region.ensures.climbable _ _ c.region-region.ensures.region c.requires (λ z. omega (arith, up.0))
     ∙ ap (below _) (sym e ∙ c.in-Inside.is))
 
 pub returns-in_default-locate : goal.returns-in_default-locate
@@ -32,5 +32,5 @@ returns-in_default-locate t c =
     let up = c.in-Some.ensures in
     let e = rw up.1 at c.locate.ensures in
     sym
-    (located_below _ _ _ c.requires.0.climbable _ _ c.region_at-region.ensures c.requires.1 (λ z. omega (arith, up.0))
+    (located_below _ _ _ c.region-region.ensures.climbable _ _ c.region-region.ensures.region c.requires (λ z. omega (arith, up.0))
     ∙ ap (below _) (sym e) ∙ below_outside _ _ c.in_default-locate.not-Inside)

@@ -17,7 +17,7 @@ pub overflow_sub-k : goal.overflow_sub-k
 overflow_sub-k c = omega (arith, c.if-k-eq0.false)
 
 pub range_at-before-requires : goal.range_at-before-requires
-range_at-before-requires c = (c.requires.view_len, omega (arith, c.requires.k_lt_most_ranges.0))
+range_at-before-requires c = (omega (arith, c.requires.k_lt_most_ranges.0))
 
 pub returns-then-range-before : goal.returns-then-range-before
 returns-then-range-before c =
@@ -34,7 +34,7 @@ pub overflow_sub-first : goal.overflow_sub-first
 overflow_sub-first c = omega (arith, c.if-first-eq0.false)
 
 pub range_at-other-requires : goal.range_at-other-requires
-range_at-other-requires c = (c.requires.view_len, omega (arith, c.requires.k_lt_most_ranges.0, c.requires.owner.0.known (omega (arith, c.if-first-eq0.false))))
+range_at-other-requires c = (omega (arith, c.requires.k_lt_most_ranges.0, c.requires.owner.0.known (omega (arith, c.if-first-eq0.false))))
 
 pub returns : goal.returns
 returns c =

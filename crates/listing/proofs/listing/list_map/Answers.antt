@@ -20,7 +20,7 @@ pub push_ranges-requires : goal.push_ranges-requires
 push_ranges-requires c =
     let f = c.flatten in
     let made : MadeAs (flattened (map_of c.args.map.now) c.args.memory_length) f.result f.new.view = made_as _ _ _ _ f.result (length-replicate {A = ℕ} view_length 0) f.auto.view f.ensures.0 f.ensures.1 in
-    (f.auto.view, made.few c.in_default.is, c.new-text.ensures)
+    (made.few c.in_default.is, c.new-text.ensures)
 
 pub returns-clause-fills : goal.returns-clause-fills
 returns-clause-fills c =

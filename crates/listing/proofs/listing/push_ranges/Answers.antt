@@ -10,10 +10,10 @@ use Rattle.listing.proofs.listing.push_ranges.Goals as goal
 
 pub loop-k-init : goal.loop-k-init
 unfolding ranges_text
-loop-k-init c = let none = c.requires.2 in (omega (arith, ap length none), none)
+loop-k-init c = let none = c.requires.1 in (omega (arith, ap length none), none)
 
 pub loop-k-preserved : goal.loop-k-preserved
 loop-k-preserved c =
     let i = c.loop-k.invariant in
     let put = c.push_range.ensures in
-    (omega (arith, i.0, put.upper_bound), lines_more (view_of c.args.view.now) _ _ (omega (arith, full_words c.args.view.now, c.loop-k-test.true, c.count_of-k-end.ensures, c.requires.1)) c.range_at.ensures i.1 put.bytes)
+    (omega (arith, i.0, put.upper_bound), lines_more (view_of c.args.view.now) _ _ (omega (arith, full_words c.args.view.now, c.loop-k-test.true, c.count_of-k-end.ensures, c.requires.0)) c.range_at.ensures i.1 put.bytes)

@@ -12,7 +12,7 @@ unfolding on_regions
 returns-in-Some c =
     let m = map_of c.args.map.now in
     simp (
-      ← c.region_count-count.ensures,
+      ← c.count-count.ensures.count,
       c.in-Some.ensures (λ (i : ℕ). kind_fault (region m i).kind) (λ i b p q. search rules) 4,
     )
 
@@ -21,7 +21,7 @@ unfolding on_regions
 returns-in-Some-lowest_fault c =
     let m = map_of c.args.map.now in
     simp (
-      ← c.region_count-count.ensures,
+      ← c.count-count.ensures.count,
       c.in_default.ensures (λ (i : ℕ). kind_fault (region m i).kind) (λ i b p q. search rules) 4,
       c.in-Some-lowest_fault.ensures (λ (i : ℕ). field_fault (region m i)) (λ i b p q. search rules) 6,
     )
@@ -31,7 +31,7 @@ unfolding on_regions
 returns-in-Some-lowest_fault-2 c =
     let m = map_of c.args.map.now in
     simp (
-      ← c.region_count-count.ensures,
+      ← c.count-count.ensures.count,
       c.in_default.ensures (λ (i : ℕ). kind_fault (region m i).kind) (λ i b p q. search rules) 4,
       c.in_default-lowest_fault.ensures (λ (i : ℕ). field_fault (region m i)) (λ i b p q. search rules) 6,
       c.in-Some-lowest_fault-2.ensures (λ (i : ℕ). link_fault m i) (λ i b p q. search rules) 7,
@@ -42,7 +42,7 @@ unfolding on_regions
 returns-in-Some-lowest_fault-3 c =
     let m = map_of c.args.map.now in
     simp (
-      ← c.region_count-count.ensures,
+      ← c.count-count.ensures.count,
       c.in_default.ensures (λ (i : ℕ). kind_fault (region m i).kind) (λ i b p q. search rules) 4,
       c.in_default-lowest_fault.ensures (λ (i : ℕ). field_fault (region m i)) (λ i b p q. search rules) 6,
       c.in_default-lowest_fault-2.ensures (λ (i : ℕ). link_fault m i) (λ i b p q. search rules) 7,
@@ -54,7 +54,7 @@ unfolding on_regions
 returns c =
     let m = map_of c.args.map.now in
     simp (
-      ← c.region_count-count.ensures,
+      ← c.count-count.ensures.count,
       c.in_default.ensures (λ (i : ℕ). kind_fault (region m i).kind) (λ i b p q. search rules) 4,
       c.in_default-lowest_fault.ensures (λ (i : ℕ). field_fault (region m i)) (λ i b p q. search rules) 6,
       c.in_default-lowest_fault-2.ensures (λ (i : ℕ). link_fault m i) (λ i b p q. search rules) 7,

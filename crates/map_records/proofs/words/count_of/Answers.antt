@@ -4,4 +4,4 @@ use Rattle.map_records.proofs.WordLaws.{count_words}
 use Rattle.map_records.proofs.words.count_of.Goals as goal
 
 pub returns : goal.returns
-returns c = sym (count_words c.args.view.now c.requires)
+returns c = sym (count_words c.args.view.now c.told-view)

@@ -6,4 +6,4 @@ use Rattle.map_records.proofs.words.range_at.Goals as goal
 pub returns : goal.returns
 returns c =
     let s = c in
-    c.range_from.ensures ∙ sym (range_words_lem s.args.view.now s.requires.0 s.args.k s.requires.1)
+    c.range_from.ensures ∙ sym (range_words_lem s.args.view.now s.told-view s.args.k s.requires)

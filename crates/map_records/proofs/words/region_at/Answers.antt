@@ -6,4 +6,4 @@ use Rattle.map_records.proofs.words.region_at.Goals as goal
 pub returns : goal.returns
 returns c =
     let s = c in
-    c.region_from.ensures ∙ sym (region_words_lem s.args.map.now s.requires.0 s.args.n s.requires.1)
+    c.region_from.ensures ∙ sym (region_words_lem s.args.map.now s.told-map s.args.n s.requires)

@@ -10,4 +10,4 @@ returns c =
     let ran = c.rfind.ensures.ran in
     sized c.rfind.result c.map_or.result _ c.map_or.ensures (λ r k. search rules)
     ∙ last_managed (map_of c.args.map.now) (λ n r q k. search rules) (λ x b q k. search rules) ran.0 c.map.result ran.2.0 _ c.rfind.result ran.1 c.map.ensures.closure (ap (λ r. r.start) c.map.ensures.source) ran.2.1 ran.2.2 ran.3 ran.4
-    ∙ ap (managed_in (map_of c.args.map.now)) (ap (λ r. r.end) c.map.ensures.source ∙ c.region_count.ensures)
+    ∙ ap (managed_in (map_of c.args.map.now)) (ap (λ r. r.end) c.map.ensures.source ∙ c.count.ensures.count)

@@ -23,4 +23,4 @@ returns-else-is_plugged-clause-value c =
       | then-from-blocks v ↦ rw (sym v.is_plugged.ensures ∙ sym v.value-is ∙ c.if-is_plugged.false) (and_off (ltb a.b.0 (d.region_size / d.block_size)))
       | else-from-blocks v ↦ rw (le-ltb a.b.0 (d.region_size / d.block_size) (omega (arith, v.if-from-blocks.false)))
     ] in
-    c.if-is_plugged.false ∙ ap not (sym (turn_refused d c.requires.valid (pins_length w c.requires.size) a.b.0 a.on out))
+    c.if-is_plugged.false ∙ ap not (sym (turn_refused d c.requires (pins_length w c.told-device) a.b.0 a.on out))

@@ -4,4 +4,4 @@ use Rattle.device_words.proofs.DeviceWords.{tables_stored}
 use Rattle.memory_device.proofs.state.clear_tables.Goals as goal
 
 pub returns : goal.returns
-returns c = tables_stored c.args.device.now _ _ _ _ c.requires c.clear.ensures c.clear-2.ensures refl
+returns c = tables_stored c.args.device.now _ _ _ _ c.told-device c.clear.ensures c.clear-2.ensures refl

@@ -13,9 +13,10 @@ use Rattle.std.specs.Prelude.{Option, Some, None, SomeIff}
 use Rattle.region_map.specs.Promises.{past}
 use Rattle.region_map.specs.Walk.{rank, ranked}
 use Rattle.map_records.specs.Words.{map_of}
+use Rattle.map_check.proofs.MapWords.{checked_walkable}
 use Rattle.region_map.proofs.WalkLaws.{looked, is_ranked, child_below}
 use Rattle.region_map.proofs.children.next_child.Invariants.{Looked}
-use Rattle.region_map.proofs.children.next_child.Goals.{then-region_at-n+then-r-below+then-best-r, then-region_at-n+else-r-below, else-region_at-n}
+use Rattle.region_map.proofs.children.next_child.Goals.{then-region-n+then-r-below+then-best-r, then-region-n+else-r-below, else-region-n}
 use Rattle.region_map.proofs.children.next_child.Goals as goal
 
 kept : (m : RegionMap) (n below best best' c : ℕ) → Looked m n below best c → c < n → best' ≡ best → ((region m c).parent ≡ n + 1 → (rank priority_of m c < best) ⊎ (below ≤ rank priority_of m c)) → Looked m n below best' (c + 1)
@@ -42,25 +43,16 @@ only false f = refl
 pub loop-c-init : goal.loop-c-init
 loop-c-init c = (omega arith, omega arith, λ k e. absurd (omega arith), λ k a b d. absurd (omega arith))
 
-pub region_at-requires : goal.region_at-requires
-region_at-requires c =
-    (c.requires.0.tree.words, omega (arith, c.loop-c-test.true, c.requires.0.below, c.requires.0.tree.walkable.count))
-
 pub overflow_add-n : goal.overflow_add-n
 overflow_add-n c =
-    omega (arith, c.requires.0.below, c.requires.0.tree.walkable.count)
-
-pub rank-r-requires : goal.rank-r-requires
-rank-r-requires c =
-    record { tree = c.requires.0.tree; below = omega (arith, c.loop-c-test.true, c.requires.0.below) }
+    omega (arith, c.requires.0, (checked_walkable _ c.region.ensures.checked).count)
 
 pub overflow_add-best : goal.overflow_add-best
 overflow_add-best c =
     omega (arith, c.if-r-below.true, c.requires.1)
 
 pub overflow_step-c : goal.overflow_step-c
-overflow_step-c c =
-    omega (arith, c.loop-c-test.true, c.requires.0.below, c.requires.0.tree.walkable.count)
+overflow_step-c c = omega (arith, c.loop-c-test.true, c.ranges.n.fits)
 
 pub loop-c-smaller : goal.loop-c-smaller
 loop-c-smaller c = omega (arith, c.loop-c-test.true)
@@ -71,13 +63,13 @@ loop-c-preserved c =
     let m = map_of a.map.now in
     let l = c.loop-c in
     let lt = c.loop-c-test.true in
-    let parent = ap (λ (r : Region). r.parent) c.region_at.ensures in
-    let go_on : (c.if-region_at-n.best ≡ l.best) → ((region m l.c).parent ≡ a.n + 1 → (rank priority_of m l.c < l.best) ⊎ (a.below ≤ rank priority_of m l.c)) → Looked m a.n a.below c.if-region_at-n.best (l.c + 1)
-    = kept m a.n a.below l.best c.if-region_at-n.best l.c l.invariant lt in
-    elim c.if-region_at-n.branch [
-      | then-region_at-n+then-r-below+then-best-r w ↦ found m a.n a.below l.best c.if-region_at-n.best l.c l.invariant lt (omega (arith, lt, c.requires.0.below, c.requires.0.tree.walkable.count)) (omega arith) (sym parent ∙ w.if-region_at-n.true) (omega arith) (omega arith)
-      | then-region_at-n+else-r-below w ↦ go_on w.best-is (λ _. ⊎_elim (λ p. inl (omega arith)) (λ q. inr (omega arith)) w.else-r-below.either)
-      | else-region_at-n w ↦ go_on w.best-is (λ p. absurd (w.if-region_at-n.false (parent ∙ p)))
+    let parent = ap (λ (r : Region). r.parent) c.region.ensures.region in
+    let go_on : (c.if-region-n.best ≡ l.best) → ((region m l.c).parent ≡ a.n + 1 → (rank priority_of m l.c < l.best) ⊎ (a.below ≤ rank priority_of m l.c)) → Looked m a.n a.below c.if-region-n.best (l.c + 1)
+    = kept m a.n a.below l.best c.if-region-n.best l.c l.invariant lt in
+    elim c.if-region-n.branch [
+      | then-region-n+then-r-below+then-best-r w ↦ found m a.n a.below l.best c.if-region-n.best l.c l.invariant lt (omega (arith, lt, c.requires.0, (checked_walkable _ c.region.ensures.checked).count)) (omega arith) (sym parent ∙ w.if-region-n.true) (omega arith) (omega arith)
+      | then-region-n+else-r-below w ↦ go_on w.best-is (λ _. ⊎_elim (λ p. inl (omega arith)) (λ q. inr (omega arith)) w.else-r-below.either)
+      | else-region-n w ↦ go_on w.best-is (λ p. absurd (w.if-region-n.false (parent ∙ p)))
     ]
 
 pub returns : goal.returns

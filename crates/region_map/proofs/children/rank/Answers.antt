@@ -7,22 +7,20 @@ use Rattle.map_check.specs.Clash.{priority_of}
 use Rattle.map_records.specs.Map.{region}
 use Rattle.region_map.specs.Walk.{rank}
 use Rattle.map_records.specs.Words.{map_of}
+use Rattle.map_check.proofs.MapWords.{checked_walkable}
 use Rattle.region_map.proofs.WalkLaws.{priority_le}
 use Rattle.region_map.proofs.children.rank.Goals as goal
-
-pub region_at-region-requires : goal.region_at-region-requires
-region_at-region-requires c = (c.requires.tree.words, omega (arith, c.requires.tree.walkable.count, c.requires.below))
 
 pub overflow_mul-result : goal.overflow_mul-result
 overflow_mul-result c =
     let m = map_of c.args.map.now in
-    omega (arith, c.priority_of.ensures, ap (λ (r : Region). priority_of r) c.region_at-region.ensures, priority_le (region m c.args.c) (c.requires.tree.walkable.priorities c.args.c c.requires.below))
+    omega (arith, c.priority_of.ensures, ap (λ (r : Region). priority_of r) c.region-region.ensures.region, priority_le (region m c.args.c) ((checked_walkable _ c.region-region.ensures.checked).priorities c.args.c c.requires))
 
 pub overflow_add-result : goal.overflow_add-result
 overflow_add-result c =
     let m = map_of c.args.map.now in
-    omega (arith, c.priority_of.ensures, ap (λ (r : Region). priority_of r) c.region_at-region.ensures, priority_le (region m c.args.c) (c.requires.tree.walkable.priorities c.args.c c.requires.below), c.requires.tree.walkable.count, c.requires.below)
+    omega (arith, c.priority_of.ensures, ap (λ (r : Region). priority_of r) c.region-region.ensures.region, priority_le (region m c.args.c) ((checked_walkable _ c.region-region.ensures.checked).priorities c.args.c c.requires), (checked_walkable _ c.region-region.ensures.checked).count, c.requires)
 
 pub returns : goal.returns
 unfolding rank
-returns c = ap (λ (p : ℕ). p * 32 + c.args.c) (c.priority_of.ensures ∙ ap (λ (r : Region). priority_of r) c.region_at-region.ensures)
+returns c = ap (λ (p : ℕ). p * 32 + c.args.c) (c.priority_of.ensures ∙ ap (λ (r : Region). priority_of r) c.region-region.ensures.region)

@@ -20,7 +20,7 @@ loop-piece-init c =
 pub backing_of-backing-requires : goal.backing_of-backing-requires
 backing_of-backing-requires c =
     let m = map_of c.args.map.now in
-    (c.requires.words, item_region (backing_of m) (walk_root m) c.args.table.now c.requires.pieces _ c.pieces-piece-items.ensures c.loop-piece.piece-index c.loop-piece-test.true)
+    item_region (backing_of m) (walk_root m) c.args.table.now c.requires.pieces _ c.pieces-piece-items.ensures c.loop-piece.piece-index c.loop-piece-test.true
 
 pub last_before-requires : goal.last_before-requires
 last_before-requires c =

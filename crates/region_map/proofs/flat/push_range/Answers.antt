@@ -3,12 +3,11 @@ use mathlib.Core.Path.{◌≡◌, sym, subst, ap, ◌∙◌}
 use mathlib.Core.Bool.{false}
 use mathlib.Core.List.{List}
 use Rattle.std.specs.Prelude.{Ok}
-use Prim.Native.Nat.{ℕ, ◌+◌, ◌-◌, ◌*◌, ◌≤◌, ◌<◌}
+use Prim.Native.Nat.{ℕ, ◌+◌, ◌-◌, ◌≤◌, ◌<◌}
 use native.Mathlib.Omega.{arith}
-use lib.ListN.{length, set}
-use lib.Seq.{length-sets}
+use lib.ListN.{set}
 use Rattle.map_records.specs.View.{range_of, entries}
-use Rattle.map_records.specs.Words.{view_of, range_words}
+use Rattle.map_records.specs.Words.{view_of}
 use Rattle.map_records.specs.declared.view.FlatRange.{FlatRange}
 use Rattle.region_map.specs.FlatList.{joins, push}
 use Rattle.region_map.specs.Promises.{Grows}
@@ -17,7 +16,7 @@ use Rattle.region_map.proofs.flat.push_range.Goals.{then-n-gt0+else-goes_on, els
 use Rattle.region_map.proofs.flat.push_range.Goals as goal
 
 pub range_at-x-requires : goal.range_at-x-requires
-range_at-x-requires c = (c.requires.0.words, omega (arith, c.if-n-gt0.true, c.count_of-n.ensures, c.requires.0.few))
+range_at-x-requires c = omega (arith, c.if-n-gt0.true, c.count_of-n.ensures, c.requires.0.few)
 
 pub goes_on-requires : goal.goes_on-requires
 goes_on-requires c =
@@ -27,7 +26,7 @@ goes_on-requires c =
     (c.requires.1 k (omega (arith, n, c.if-n-gt0.true)))
 
 pub put_range-requires : goal.put_range-requires
-put_range-requires c = (c.requires.0.words, omega (arith, c.if-n-gt0.true, c.count_of-n.ensures, c.requires.0.few))
+put_range-requires c = omega (arith, c.if-n-gt0.true, c.count_of-n.ensures, c.requires.0.few)
 
 pub returns-then-goes_on : goal.returns-then-goes_on
 returns-then-goes_on c =
@@ -47,10 +46,7 @@ returns-then-n-eq-RANGES c =
     refused_words c.args.view.now c.args.r c.requires.0 behind _ (sym c.count_of-n.ensures ∙ c.if-n-eq-RANGES.true)
 
 pub put_range-requires-2 : goal.put_range-requires-2
-put_range-requires-2 c = (c.requires.0.words, omega (arith, c.if-n-eq-RANGES.false, c.count_of-n.ensures, c.requires.0.few))
-
-pub put_count-requires : goal.put_count-requires
-put_count-requires c = ap length c.put_range-2.ensures ∙ length-sets {A = ℕ} c.args.view.now (1 + 6 * c.count_of-n.result) (range_words c.args.r) ∙ c.requires.0.words
+put_range-requires-2 c = omega (arith, c.if-n-eq-RANGES.false, c.count_of-n.ensures, c.requires.0.few)
 
 pub returns : goal.returns
 returns c =

@@ -10,10 +10,10 @@ use Rattle.routing.specs.Promises.{given_ok}
 use Rattle.routing.proofs.RouteAllLaws.{given_refused, given_answered, record_counts}
 use Rattle.routing.proofs.route.route_all.Goals as goal
 
-pub returns-in_err-blocks : goal.returns-in_err-blocks
-returns-in_err-blocks c =
+pub returns-in_err-guest : goal.returns-in_err-guest
+returns-in_err-guest c =
     let a = c.args in
-    let e = given_refused (view_of a.view.now) a.memory_length a.accesses.now a.answers.now (option_map (λ d. device_of d.now) a.device) (ap (λ (x : Bool). x && answers_fit a.accesses.now a.answers.now) c.in_err-blocks.ensures) in
+    let e = given_refused (view_of a.view.now) a.memory_length a.accesses.now a.answers.now (option_map (λ d. device_of d.now) a.device) (ap (λ (x : Bool). x && answers_fit a.accesses.now a.answers.now) c.in_err-guest.ensures) in
     (record_counts c.from_residual.result c.from_residual.ensures.0 ∙ ap (λ (x : RoutedAll). x.number) (sym e), ap (λ (x : RoutedAll). x.answers) (sym e))
 
 pub returns-then-not-answers_fit : goal.returns-then-not-answers_fit
@@ -27,6 +27,6 @@ returns-then-not-answers_fit c =
 pub returns : goal.returns
 returns c =
     let a = c.args in
-    let asked = c.in_ok-blocks.ensures in
+    let asked = c.in_ok-guest.ensures in
     let e = given_answered (view_of a.view.now) a.memory_length a.accesses.now a.answers.now (option_map (λ d. device_of d.now) a.device) asked.ok (sym c.answers_fit.ensures ∙ c.if-not-answers_fit.false) _ asked.routes in
     (ap (λ (x : RoutedAll). x.number) (sym e), c.routes_judged.ensures ∙ ap (λ (x : RoutedAll). x.answers) (sym e))

@@ -12,18 +12,18 @@ use Rattle.routing.proofs.route.routes_judged.Goals as goal
 
 pub loop-i-init : goal.loop-i-init
 loop-i-init c = record {
-  rest = answers_start (one c.args.view.now c.args.blocks.size c.args.blocks.plugged.now) c.args.accesses.now c.args.answers.now (length c.as_chunks.result.0.now)
-      (omega (arith, fit_length c.args.accesses.now c.args.answers.now c.requires.answers_value, c.as_chunks.ensures.front_len));
+  rest = answers_start (one c.args.guest.now.view c.args.guest.now.blocks.size c.args.guest.now.blocks.plugged.now) c.args.accesses.now c.args.answers.now (length c.as_chunks.result.0.now)
+      (omega (arith, fit_length c.args.accesses.now c.args.answers.now c.requires, c.as_chunks.ensures.front_len));
   size = refl;
 }
 
 pub put_answer-requires : goal.put_answer-requires
-put_answer-requires c = omega (arith, c.loop-i-test.true, c.loop-i.auto.answers, fit_length c.args.accesses.now c.args.answers.now c.requires.answers_value, c.as_chunks.ensures.front_len)
+put_answer-requires c = omega (arith, c.loop-i-test.true, c.loop-i.auto.answers, fit_length c.args.accesses.now c.args.answers.now c.requires, c.as_chunks.ensures.front_len)
 
 pub loop-i-preserved : goal.loop-i-preserved
 loop-i-preserved c =
     let l = c.loop-i in
-    let f = one c.args.view.now c.args.blocks.size c.args.blocks.plugged.now in
+    let f = one c.args.guest.now.view c.args.guest.now.blocks.size c.args.guest.now.blocks.plugged.now in
     let xs = c.args.accesses.now in
     let n = length c.as_chunks.result.0.now in
     let h : l.i < length xs / 2 = omega (arith, c.loop-i-test.true, c.as_chunks.ensures.front_len) in
@@ -38,5 +38,5 @@ loop-i-preserved c =
 pub returns : goal.returns
 returns c =
     let l = c.loop-i in
-    let f = one c.args.view.now c.args.blocks.size c.args.blocks.plugged.now in
+    let f = one c.args.guest.now.view c.args.guest.now.blocks.size c.args.guest.now.blocks.plugged.now in
     sym (answers_end f c.args.accesses.now l.answers (4 * l.i) l.i (length c.as_chunks.result.0.now) c.loop-i-test.false) ∙ l.invariant.rest ∙ ap (answers_to f c.args.accesses.now 0) c.as_chunks.ensures.front_len

@@ -17,6 +17,6 @@ one view block plugged = routed (leaf_at (entries (view_of view))) (plugged_in b
 abbrev pub invariant-loop-i : goal.invariant-loop-i
 invariant-loop-i l =
     record {
-      rest : sets l.answers (4 * l.i) (answers_to (one l.view l.blocks.size l.blocks.plugged.now) l.accesses l.i (length l.pairs - l.i)) ≡ answers_to (one l.view l.blocks.size l.blocks.plugged.now) l.accesses 0 (length l.pairs);
+      rest : sets l.answers (4 * l.i) (answers_to (one l.guest.view l.guest.blocks.size l.guest.blocks.plugged.now) l.accesses l.i (length l.pairs - l.i)) ≡ answers_to (one l.guest.view l.guest.blocks.size l.guest.blocks.plugged.now) l.accesses 0 (length l.pairs);
       size : length l.answers ≡ length l.initial.answers;
     }

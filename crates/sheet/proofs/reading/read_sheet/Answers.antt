@@ -1,14 +1,11 @@
 -- `sheet::reading::read_sheet` meets its contract. Assumes nothing.
 use mathlib.Core.Path.{◌≡◌, sym, ap, ◌∙◌}
-use Prim.Native.Nat.{ℕ}
-use lib.ListN.{length-replicate}
 use Rattle.map_records.proofs.WordLaws.{empty_map_words}
 use Rattle.map_check.specs.Reply.{accepted, passes, Laid}
 use Rattle.sheet.specs.Answer.{sheet_fault_reply, sheet_reply}
 use Rattle.sheet.proofs.ReadLaws.{fault_not}
 use Rattle.std.proofs.lemmas.Result.{err_from_is_err_and}
 use Rattle.sheet.proofs.SheetLaws.{into_other, into_reply, into_read, into_kept}
-use Rattle.map_records.specs.Limits.{map_length}
 use Rattle.sheet.proofs.reading.read_sheet.Goals as goal
 
 pub returns-then-map-ne-MAP_WORDS : goal.returns-then-map-ne-MAP_WORDS
@@ -17,7 +14,7 @@ returns-then-map-ne-MAP_WORDS c =
     (sym (ap (λ (x : Laid). x.reply) e), sym (ap (λ (x : Laid). x.words) e))
 
 pub read_map-requires : goal.read_map-requires
-read_map-requires c = (length-replicate {A = ℕ} map_length 0, empty_map_words)
+read_map-requires c = empty_map_words
 
 pub returns-in_err-read_map : goal.returns-in_err-read_map
 returns-in_err-read_map c =

@@ -12,10 +12,10 @@ unfolding fetched
 returns-then-not-reaches c = rw (← c.from.ensures) (simp (sym c.reaches.ensures ∙ c.if-not-reaches.true))
 
 pub read_bytes-requires-clause-in_memory : goal.read_bytes-requires-clause-in_memory
-read_bytes-requires-clause-in_memory c = let g = c.args.guest.now in all_memory (view_of g.view.now) g.block g.plugged.now (c.args.table.0 + 16 * c.from.result) 16 (sym c.reaches.ensures ∙ c.if-not-reaches.false)
+read_bytes-requires-clause-in_memory c = let g = c.args.lent.now in all_memory (view_of g.guest.view) g.guest.blocks.size g.guest.blocks.plugged.now (c.args.table.0 + 16 * c.from.result) 16 (sym c.reaches.ensures ∙ c.if-not-reaches.false)
 
 pub returns : goal.returns
 unfolding fetched
-returns c = let e : c.descriptor_of.result ≡ descriptor_at (place_of c.args.guest.now) c.args.guest.now.mem.now (c.args.table.0 + 16 * c.from.result) =
+returns c = let e : c.descriptor_of.result ≡ descriptor_at (place_of c.args.lent.now) c.args.lent.now.mem.now (c.args.table.0 + 16 * c.from.result) =
     c.descriptor_of.ensures ∙ ap (λ (b : List ℕ). descriptor_at (λ a. a) b 0) c.read_bytes.ensures ∙ descriptor_laid _ _ _ in
     rw (← c.from.ensures) (simp (sym c.reaches.ensures ∙ c.if-not-reaches.false, e))

@@ -30,25 +30,25 @@ module _ (place : ℕ → ℕ) (q : SplitQueue) (out found : List ℕ) (at : ℕ
   full = ap length slot ∙ length-sets out 0 (map place (addresses (used_entry q) 8)) ∙ ten
 
 pub used_entry-entry-requires : goal.used_entry-entry-requires
-used_entry-entry-requires c = let f = queue_facts c.args.queue c.requires.queue_value in (omega (arith, f.used), f.some)
+used_entry-entry-requires c = let f = queue_facts c.args.lent.now.queue c.args.lent.now.kept in (omega (arith, f.used), f.some)
 
 pub used_idx-idx-requires : goal.used_idx-idx-requires
-used_idx-idx-requires c = omega (arith, (queue_facts c.args.queue c.requires.queue_value).used)
+used_idx-idx-requires c = omega (arith, (queue_facts c.args.lent.now.queue c.args.lent.now.kept).used)
 
 pub find_places-requires : goal.find_places-requires
 find_places-requires c = let x = blank in
-    record { judged = c.requires.judged; in_memory = memory_as (view_of c.args.view.now) _ _ _ 8 c.used_entry-entry.ensures refl c.requires.used_in.entry }
+    record { in_memory = memory_as (view_of c.args.lent.now.guest.view) _ _ _ 8 c.used_entry-entry.ensures refl c.requires.entry }
 
 pub find_places-requires-2 : goal.find_places-requires-2
 find_places-requires-2 c = let x = stored blank c.find_places.new.out in
-    let f : length x ≡ 10 = full (place_in (view_of c.args.view.now)) c.args.queue blank _ _ refl c.used_entry-entry.ensures c.find_places.ensures in
-    record { judged = c.requires.judged; in_memory = memory_as (view_of c.args.view.now) _ _ _ 2 c.used_idx-idx.ensures (omega (arith, length-take 2 (drop 8 x), length-drop 8 x)) c.requires.used_in.idx }
+    let f : length x ≡ 10 = full (place_in (view_of c.args.lent.now.guest.view)) c.args.lent.now.queue blank _ _ refl c.used_entry-entry.ensures c.find_places.ensures in
+    record { in_memory = memory_as (view_of c.args.lent.now.guest.view) _ _ _ 2 c.used_idx-idx.ensures (omega (arith, length-take 2 (drop 8 x), length-drop 8 x)) c.requires.idx }
 
 pub returns : goal.returns
 returns c = let x = stored blank c.find_places.new.out in
-    let place = place_in (view_of c.args.view.now) in
-    let f : length x ≡ 10 = full place c.args.queue blank _ _ refl c.used_entry-entry.ensures c.find_places.ensures in
-    stretch_stored place x _ (used_idx c.args.queue) 8 2 2 refl (omega arith)
+    let place = place_in (view_of c.args.lent.now.guest.view) in
+    let f : length x ≡ 10 = full place c.args.lent.now.queue blank _ _ refl c.used_entry-entry.ensures c.find_places.ensures in
+    stretch_stored place x _ (used_idx c.args.lent.now.queue) 8 2 2 refl (omega arith)
     (c.find_places-2.ensures ∙ ap (λ (a : ℕ). map place (addresses a (length (take 2 (drop 8 x))))) c.used_idx-idx.ensures)
-    ∙ ap (λ (z : List ℕ). sets z 8 (map place (addresses (used_idx c.args.queue) 2))) (slot place c.args.queue blank _ _ refl c.used_entry-entry.ensures c.find_places.ensures)
-    ∙ used_laid place c.args.queue blank refl
+    ∙ ap (λ (z : List ℕ). sets z 8 (map place (addresses (used_idx c.args.lent.now.queue) 2))) (slot place c.args.lent.now.queue blank _ _ refl c.used_entry-entry.ensures c.find_places.ensures)
+    ∙ used_laid place c.args.lent.now.queue blank refl

@@ -19,23 +19,23 @@ module _ (q : SplitQueue) (at : ℕ) (entry : at ≡ ring_entry q) where
   number place memory result e = e ∙ ap (λ (x : ℕ). number_at place memory x 2) entry
 
 pub ring_entry-entry-requires : goal.ring_entry-entry-requires
-ring_entry-entry-requires c = let f = queue_facts c.args.queue c.requires in (omega (arith, f.available), f.some)
+ring_entry-entry-requires c = let f = queue_facts c.args.lent.now.queue c.args.lent.now.kept in (omega (arith, f.available), f.some)
 
 pub returns-then-not-reaches : goal.returns-then-not-reaches
-returns-then-not-reaches c = head_out _ _ _ (sym (tested c.args.queue _ c.ring_entry-entry.ensures _ _ c.reaches.ensures) ∙ c.if-not-reaches.true)
+returns-then-not-reaches c = head_out _ _ _ (sym (tested c.args.lent.now.queue _ c.ring_entry-entry.ensures _ _ c.reaches.ensures) ∙ c.if-not-reaches.true)
 
 pub number-number-requires : goal.number-number-requires
-number-number-requires c = let g = c.args.guest.now in
-    all_memory (view_of g.view.now) g.block g.plugged.now _ 2 (sym c.reaches.ensures ∙ c.if-not-reaches.false)
+number-number-requires c = let g = c.args.lent.now in
+    all_memory (view_of g.guest.view) g.guest.blocks.size g.guest.blocks.plugged.now _ 2 (sym c.reaches.ensures ∙ c.if-not-reaches.false)
 
 pub returns-then-number-queue : goal.returns-then-number-queue
-returns-then-number-queue c = let q = c.args.queue in
+returns-then-number-queue c = let q = c.args.lent.now.queue in
     let e = c.ring_entry-entry.ensures in
     head_at _ _ _ (sym (tested q _ e _ _ c.reaches.ensures) ∙ c.if-not-reaches.false) _
-    (number q _ e (place_of c.args.guest.now) c.args.guest.now.mem.now _ c.number-number.ensures) c.if-number-queue.true
+    (number q _ e (place_of c.args.lent.now) c.args.lent.now.mem.now _ c.number-number.ensures) c.if-number-queue.true
 
 pub returns : goal.returns
-returns c = let q = c.args.queue in
+returns c = let q = c.args.lent.now.queue in
     let e = c.ring_entry-entry.ensures in
     head_past _ _ _ (sym (tested q _ e _ _ c.reaches.ensures) ∙ c.if-not-reaches.false) _
-    (number q _ e (place_of c.args.guest.now) c.args.guest.now.mem.now _ c.number-number.ensures) c.if-number-queue.false
+    (number q _ e (place_of c.args.lent.now) c.args.lent.now.mem.now _ c.number-number.ensures) c.if-number-queue.false

@@ -9,7 +9,7 @@ use Rattle.virtqueue.proofs.TakeLaws.{whole_shape, whole_ready, chain_short, cha
 use Rattle.virtqueue.proofs.take.take_chain.Goals as goal
 
 pub gather-requires-clause-table : goal.gather-requires-clause-table
-gather-requires-clause-table c = let f = queue_facts c.args.queue c.requires.queue_value in
+gather-requires-clause-table c = let f = queue_facts c.args.lent.now.queue c.args.lent.now.kept in
     (omega (arith, f.descriptors), c.requires.head_lt_size)
 
 pub returns-in_err-gather : goal.returns-in_err-gather
@@ -27,11 +27,11 @@ returns-then-not-used_reached c = λ notify. chain_unused _ _ _ notify _
     ∙ ap (λ (b : Bool). cond b 22 0) (sym c.is_short.ensures ∙ c.if-is_short.false)) (sym c.used_reached.ensures ∙ c.if-not-used_reached.true)
 
 pub returns : goal.returns
-returns c = λ notify. let g = c.args.guest.now in
+returns c = λ notify. let g = c.args.lent.now in
     let w = c.in_ok-gather.ensures in
     let r = whole_ready _ _ _ _ w (sym c.is_short.ensures ∙ c.if-is_short.false) in
     record {
-      chain = chain_of (guest_of g) g.mem.now c.args.queue c.args.head;
+      chain = chain_of (guest_of g) g.mem.now c.args.lent.now.queue c.args.head;
       is = chain_ready _ _ _ notify _ (whole_shape _ _ _ _ w ∙ ap (λ (b : Bool). cond b 22 0) (sym c.is_short.ensures ∙ c.if-is_short.false))
           (sym c.used_reached.ensures ∙ c.if-not-used_reached.false);
       request = r.0;

@@ -5,10 +5,10 @@ use Rattle.virtqueue.proofs.QueueLaws.{queue_facts}
 use Rattle.virtqueue.proofs.take.used_reached.Goals as goal
 
 pub used_entry-entry-requires : goal.used_entry-entry-requires
-used_entry-entry-requires c = let f = queue_facts c.args.queue c.requires in (omega (arith, f.used), f.some)
+used_entry-entry-requires c = let f = queue_facts c.args.lent.now.queue c.args.lent.now.kept in (omega (arith, f.used), f.some)
 
 pub used_idx-idx-requires : goal.used_idx-idx-requires
-used_idx-idx-requires c = omega (arith, (queue_facts c.args.queue c.requires).used)
+used_idx-idx-requires c = omega (arith, (queue_facts c.args.lent.now.queue c.args.lent.now.kept).used)
 
 pub returns : goal.returns
 unfolding used_reached

@@ -12,7 +12,7 @@ put s = s
 
 pub returns-then-is_writable : goal.returns-then-is_writable
 returns-then-is_writable c = let s = c.args.self.now in
-    let g = c.args.guest.now in
+    let g = c.args.lent.now in
     let w = s.writable in
     let n = c.fitting.result in
     let e = c.fitting.ensures in
@@ -23,7 +23,7 @@ returns-then-is_writable c = let s = c.args.self.now in
 
 pub returns : goal.returns
 returns c = let s = c.args.self.now in
-    let g = c.args.guest.now in
+    let g = c.args.lent.now in
     let w = s.readable in
     let n = c.fitting-2.result in
     let e = c.fitting-2.ensures in

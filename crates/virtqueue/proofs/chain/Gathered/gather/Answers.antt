@@ -51,7 +51,7 @@ pub loop-passed-preserved : goal.loop-passed-preserved
 loop-passed-preserved c = let v = c.in_ok-visit.ensures in
     let t = c.loop-passed-test.true in
     let d = c.in-Some.d in
-    let g = c.args.guest.now in
+    let g = c.args.lent.now in
     let e : c.args.size - c.loop-passed._passed - 1 ≡ c.args.size - (c.loop-passed._passed + 1) = omega arith in (
       c.if-size-d.false,
       rw (← e)

@@ -1,0 +1,17 @@
+-- `drawing::map::DrawnMap::region` meets its contract. Assumes nothing.
+use mathlib.Core.Path.{subst}
+use mathlib.Core.List.{List}
+use native.Mathlib.Omega.{arith}
+use Prim.Native.Nat.{ℕ}
+use Rattle.map_records.specs.Words.{map_of}
+use Rattle.drawing.specs.Position.{Climbable}
+use Rattle.drawing.proofs.DrawLaws.{accepted_climbable}
+use Rattle.drawing.proofs.map.DrawnMap.region.Goals as goal
+
+pub region_at-requires : goal.region_at-requires
+region_at-requires c =
+    let up : Climbable (map_of c.args.self.now) = subst (λ (w : List ℕ). Climbable (map_of w)) c.self.view_is (accepted_climbable _ _ c.self.invariant) in
+    omega (arith, c.requires, up.count)
+
+pub returns-clause-climbable : goal.returns-clause-climbable
+returns-clause-climbable c = subst (λ (w : List ℕ). Climbable (map_of w)) c.self.view_is (accepted_climbable _ _ c.self.invariant)
