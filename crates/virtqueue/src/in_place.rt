@@ -9,7 +9,7 @@ ghost use Rattle.virtqueue.specs.Promises.{refused_step};
 use crate::queue::SplitQueue;
 use crate::serve::step_judged;
 use crate::step::{Moved, StepFault};
-use device_words::rules::device_ok;
+use device_words::rules::words_ok;
 use device_words::words::{DeviceWords, region_size};
 use guest_view::view::View;
 
@@ -28,7 +28,7 @@ pub fn judged_view<'a>(
     let Some(view) = View::new(view, memory_length, region_size(device)) else {
         return None;
     };
-    if !(device_ok(device) & queue.keeps_rules()) {
+    if !(words_ok(device) & queue.keeps_rules()) {
         return None;
     }
     Some(view)
