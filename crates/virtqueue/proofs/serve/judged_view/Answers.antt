@@ -1,10 +1,10 @@
--- `virtqueue::in_place::judged_view` meets its contract. Assumes nothing.
+-- `virtqueue::serve::judged_view` meets its contract. Assumes nothing.
 use Rattle.std.proofs.Common.{◌≡◌, true, ◌&&◌, sym, ap, ap₂, ◌∙◌}
 use Rattle.device_words.specs.Words.{device_of}
 use Rattle.map_records.specs.Words.{view_of}
 use Rattle.guest_view.specs.View.{view_ok}
 use Rattle.virtqueue.specs.Step.{records_ok}
-use Rattle.virtqueue.proofs.in_place.judged_view.Goals as goal
+use Rattle.virtqueue.proofs.serve.judged_view.Goals as goal
 
 pub returns-in_default : goal.returns-in_default
 unfolding records_ok
