@@ -73,7 +73,8 @@ fn is_whole(view: &View, at: usize, a: GuestAddress, w: u64) -> bool
 
 // Are the blocks of an access plugged? They are at most two, since no block is shorter than it.
 fn blocks_plugged(blocks: &Blocks, offset: RegionOffset, w: u64) -> bool
-    requires { (0 < w) × (w ≤ 8) × (offset.0 < limit) }
+    requires le_block { 8 ≤ blocks.now.size }
+    requires w_nonzero { (0 < w) × (w ≤ 8) × (offset.0 < limit) }
     ensures { result ≡ all_below (λ i. plugged_in blocks.now.size blocks.now.plugged.now (offset.0 + i)) w }
 {
     if !blocks.byte_plugged(offset) {
@@ -88,7 +89,8 @@ fn blocks_plugged(blocks: &Blocks, offset: RegionOffset, w: u64) -> bool
 
 // An access over a view that was judged, with what the search for its first byte gave.
 fn route_at(guest: &Guest, at: usize, a: GuestAddress, w: u64) -> Result<Route, RouteFault>
-    requires { Spot (view_of guest.now.view) a.0 at }
+    requires le_block { 8 ≤ guest.now.blocks.size }
+    requires spot { Spot (view_of guest.now.view) a.0 at }
     ensures { routed_by result
         ≡ routed_in guest.now.view guest.now.blocks.size guest.now.blocks.plugged.now a.0 w }
 {
@@ -194,7 +196,8 @@ fn put_answer(answers: &mut [u64], i: usize, answer: Result<Route, RouteFault>)
 
 // Each access in turn, over a view that was judged. The range of the one before is tried first.
 fn routes_judged(guest: &Guest, accesses: &[u64], answers: &mut [u64])
-    requires { answers_fit accesses.now answers.old ≡ true }
+    requires le_block { 8 ≤ guest.now.blocks.size }
+    requires answers_value { answers_fit accesses.now answers.old ≡ true }
     ensures { answers.new
         ≡ answers_of (routed_in guest.now.view guest.now.blocks.size guest.now.blocks.plugged.now) accesses.now }
 {
