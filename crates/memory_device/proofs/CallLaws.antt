@@ -81,15 +81,21 @@ host_block P n b e p far = go (dec_le n 65535)
     go (yes h) = subst P (let z : n ≡ b = omega (arith, e, h) in z) p
     go (no h) = far (omega (arith, e, h)) (omega (arith, e, h))
 
-pub host_turn : (d : MemoryDevice) → Valid d → length d.pinned ≡ 16 → (n b : ℕ) → b ≡ min n 65535 → (on : Bool) → turn_fault d b on ≡ turn_fault d n on
-host_turn d v l n b e true = host_block (λ x. pin_fault d x ≡ pin_fault d n) n b e refl (λ p q. outside b p ∙ sym (outside n q))
+pub host_fault : (d : MemoryDevice) → Valid d → (n b : ℕ) → b ≡ min n 65535 → pin_fault d b ≡ pin_fault d n
+host_fault d v n b e = host_block (λ x. pin_fault d x ≡ pin_fault d n) n b e refl (λ p q. outside b p ∙ sym (outside n q))
   where
     outside : (x : ℕ) → 1024 ≤ x → pin_fault d x ≡ true
     outside x h =
         let room = blocks_bound d.block_size d.region_size 1024 (omega (arith, v.least)) v.blocks in
         rw (le-ltb x (d.region_size / d.block_size) (omega (arith, room, h)))
-host_turn d v l n b e false =
-    ap not (host_block (λ x. is_pinned d x ≡ is_pinned d n) n b e refl (λ p q. past_bit d.pinned b l p ∙ sym (past_bit d.pinned n l q)))
+
+pub host_pinned : (d : MemoryDevice) → length d.pinned ≡ 16 → (n b : ℕ) → b ≡ min n 65535 → is_pinned d b ≡ is_pinned d n
+host_pinned d l n b e = host_block (λ x. is_pinned d x ≡ is_pinned d n) n b e refl (λ p q. past_bit d.pinned b l p ∙ sym (past_bit d.pinned n l q))
+
+-- both as one
+pub host_turn : (d : MemoryDevice) → Valid d → length d.pinned ≡ 16 → (n b : ℕ) → b ≡ min n 65535 → (on : Bool) → turn_fault d b on ≡ turn_fault d n on
+host_turn d v l n b e true = host_fault d v n b e
+host_turn d v l n b e false = ap not (host_pinned d l n b e)
 
 -- a block that is outside the region or unplugged is not pinned either, so that it is neither pinned nor let go
 pub turn_refused : (d : MemoryDevice) → Valid d → length d.pinned ≡ 16 → (b : ℕ) (on : Bool) → (ltb b (d.region_size / d.block_size) && bit_at d.plugged b) ≡ false → turn_fault d b on ≡ true

@@ -14,7 +14,7 @@ loop-i-init c = started _ _
 pub returns-then-group-eq0 : goal.returns-then-group-eq0
 returns-then-group-eq0 c =
     let rest = c.in-Some.ensures.lookup.0 in
-    at_last_zero _ _ _ _ _ c.loop-i.invariant (omega (arith, rest.3, c.loop-i-test.true)) _ (c.from-group.ensures ∙ rest_byte _ _ _ _ rest.2) c.if-group-lt128.true c.if-i-gt0.true c.if-group-eq0.true
+    at_last_zero _ _ _ _ _ c.loop-i.invariant (omega (arith, rest.3, c.loop-i-test.true)) _ (c.from-group.ensures ∙ rest_byte _ _ _ _ rest.2) c.if-group-lt128.true (omega arith) c.if-group-eq0.true
 
 pub overflow_mul-whole : goal.overflow_mul-whole
 overflow_mul-whole c = omega (arith, group_bound _ _ _ _ _ c.loop-i.invariant c.from-group.result (omega arith), scale_bound _ _ _ _ _ c.loop-i.invariant)
@@ -25,7 +25,7 @@ overflow_add-whole c = omega (arith, group_bound _ _ _ _ _ c.loop-i.invariant c.
 pub returns-then-group-lt128 : goal.returns-then-group-lt128
 returns-then-group-lt128 c =
     let rest = c.in-Some.ensures.lookup.0 in
-    at_last _ _ _ _ _ c.loop-i.invariant (omega (arith, rest.3, c.loop-i-test.true)) _ (c.from-group.ensures ∙ rest_byte _ _ _ _ rest.2) c.if-group-lt128.true c.else-i-gt0.either
+    at_last _ _ _ _ _ c.loop-i.invariant (omega (arith, rest.3, c.loop-i-test.true)) _ (c.from-group.ensures ∙ rest_byte _ _ _ _ rest.2) c.if-group-lt128.true (search arith)
 
 pub returns-then-i-eq-LAST_GROUP : goal.returns-then-i-eq-LAST_GROUP
 returns-then-i-eq-LAST_GROUP c =
