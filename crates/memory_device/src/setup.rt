@@ -9,7 +9,7 @@ use crate::device::MemoryDevice;
 use device_words::rules::setup_ok;
 use device_words::table::TABLE_WORDS;
 use map_check::answer::Fault;
-use map_check::check::{MapFault, check_map};
+use map_check::check::{MapFault, checked_map};
 use map_check::checked::CheckedMap;
 use map_records::kind::Kind;
 use map_records::map::GuestAddress;
@@ -85,7 +85,7 @@ pub fn set_up(
 ) -> Result<MemoryDevice, SetUpFault>
     ensures { set_up_outcome_of result ≡ set_up (map_of map.now) memory_length values }
 {
-    let map = check_map(map, memory_length)?;
+    let map = checked_map(map, memory_length)?;
     let region_size = managed_size(&map);
     if !setup_ok(
         values.block_size,
