@@ -14,7 +14,7 @@ ghost use Rattle.routing.specs.Promises.{is_whole, routed_in, Asked};
 use crate::answer::{Route, RouteFault};
 use crate::view::NO_REGION;
 use device_words::rules::valid;
-use device_words::table::{TABLE_WORDS, TableWords};
+use device_words::table::TABLE_WORDS;
 use device_words::words::{block_size, plugged, region_size};
 use guest_view::place::{offset_in, place_of};
 use guest_view::reach::{Blocks, Guest};
@@ -25,8 +25,6 @@ use map_records::map::{GuestAddress, RegionOffset};
 
 // Given no device, no block is plugged: a table of zeros, over blocks of any size.
 const ANY_BLOCK_SIZE: u64 = 4096;
-
-static NONE_PLUGGED: TableWords = [0; TABLE_WORDS];
 
 fn width_ok(w: u64) -> bool
     ensures { result ≡ width_ok w }
@@ -136,7 +134,7 @@ fn judged_guest<'v, 'd>(
         };
         let blocks = Blocks {
             size: ANY_BLOCK_SIZE,
-            plugged: &NONE_PLUGGED,
+            plugged: &[0; TABLE_WORDS],
         };
         return Ok(Guest { view, blocks });
     };
