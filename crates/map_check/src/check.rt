@@ -5,8 +5,9 @@ ghost use Rattle.map_check.specs.Check.{fault_reply, reply, judged, Accepted};
 ghost use Rattle.map_check.specs.Promises.{on_regions, on_pairs};
 
 use crate::answer::Fault;
-use crate::checked::{CheckedMap, CountedMap};
+use crate::checked::CheckedMap;
 use crate::clash::{managed_clash, memory_clash, port_clash, sibling_clash};
+use crate::counted::CountedMap;
 use crate::fault::{field_fault, kind_fault, link_fault, memory_fault};
 use crate::search::{first_pair, lowest_fault};
 use map_records::refusal::Refusal;

@@ -14,6 +14,7 @@ use map_check::checked::CheckedMap;
 use map_records::kind::Kind;
 use map_records::map::GuestAddress;
 use map_records::refusal::Refusal;
+use map_records::words::region_at;
 
 // What the host chooses. The region's size is the managed region's.
 #[derive(Clone, Copy, Debug, PartialEq, Eq)]
@@ -71,8 +72,9 @@ impl From<MapFault> for SetUpFault {
 fn managed_size(map: &CheckedMap) -> u64
     ensures { result ≡ region_size (map_of map.now) }
 {
+    let words = map.words();
     (0..map.count())
-        .map(|n| map.region(n))
+        .map(|n| region_at(words, n))
         .rfind(|region| region.has_kind(Kind::Managed))
         .map_or(0, |region| region.size)
 }
