@@ -85,7 +85,8 @@ pub fn judged_view<'a>(
         (λ v. (v ≡ view.now)
         × (records_ok (view_of view.now) (device_of device.now) queue memory_length ≡ true)) }
 {
-    let Some(view) = View::new(view, memory_length, region_size(device)) else {
+    let region = region_size(device);
+    let Some(view) = View::new(view, memory_length, region) else {
         return None;
     };
     if !(words_ok(device) & queue.keeps_rules()) {
