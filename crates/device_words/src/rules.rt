@@ -63,8 +63,8 @@ fn tables_ok(device: &DeviceWords) -> bool
     only_below(plug_table(device), blocks) & pins_plugged(device)
 }
 
-// Do the words of a device keep their rules?
-pub fn device_ok(device: &DeviceWords) -> bool
+// Do as many words as a device has keep their rules?
+pub fn words_ok(device: &DeviceWords) -> bool
     ensures { result ≡ device_ok (device_of device.now) }
 {
     setup_ok(
@@ -76,6 +76,16 @@ pub fn device_ok(device: &DeviceWords) -> bool
     ) && tables_ok(device)
 }
 
+// Do the words of a device keep their rules? Those of another number do not.
+pub fn device_ok(device: &[u64]) -> bool
+    ensures { result ≡ (is_device device.now && device_ok (device_of device.now)) }
+{
+    match device.as_array() {
+        Some(words) => words_ok(words),
+        None => false,
+    }
+}
+
 // The words of a device that keeps its rules. Words of another number are a record of zeros, which breaks them.
 pub fn valid(words: &[u64]) -> Option<&DeviceWords>
     ensures { MatchOption result (device_ok (device_of words.now) ≡ false)
@@ -84,7 +94,7 @@ pub fn valid(words: &[u64]) -> Option<&DeviceWords>
     let Some(device) = words.as_array() else {
         return None;
     };
-    if !device_ok(device) {
+    if !words_ok(device) {
         return None;
     }
     Some(device)

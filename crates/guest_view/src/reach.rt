@@ -14,13 +14,13 @@ use map_records::kind::Kind;
 use map_records::map::{GuestAddress, RegionOffset};
 use map_records::view::FlatRange;
 
-// The managed region's blocks: the size of each, and the table of those that are plugged. No block is shorter than an
-// access. A proof does not see the length of a field's array by itself, so `table` says it.
+// The managed region's blocks: the size of each, and the table of those that are plugged. A proof does not see the length of
+// a field's array by itself, so `table` says it.
 #[derive(Drop)]
 pub struct Blocks<'a> {
     pub size: u64,
     pub plugged: &'a TableWords,
-    pub ghost large: { 8 ≤ size },
+    pub ghost positive: { 0 < size },
     pub ghost table: { length plugged.now ≡ table_length },
 }
 

@@ -73,8 +73,8 @@ fn pairs_ok(view: &ViewWords, range: FlatRange, first: usize, k: usize) -> bool
     (other.kind == range.kind) & (other.base == range.base)
 }
 
-// Does a given view keep 27's rules, over a memory and a managed region of these lengths?
-pub fn view_ok(view: &ViewWords, memory: u64, region: u64) -> bool
+// Do as many words as a view has keep 27's rules, over a memory and a managed region of these lengths?
+pub fn words_ok(view: &ViewWords, memory: u64, region: u64) -> bool
     ensures { result ≡ view_ok (view_of view.now) memory region }
 {
     let count = count_of(view);
@@ -99,4 +99,14 @@ pub fn view_ok(view: &ViewWords, memory: u64, region: u64) -> bool
         }
     }
     true
+}
+
+// Does a given view keep 27's rules, over a memory and a managed region of these lengths? Words of another number do not.
+pub fn view_ok(view: &[u64], memory: u64, region: u64) -> bool
+    ensures { result ≡ view_ok (view_of view.now) memory region }
+{
+    match view.as_array() {
+        Some(words) => words_ok(words, memory, region),
+        None => false,
+    }
 }

@@ -5,7 +5,7 @@ ghost use Rattle.map_records.specs.Words.{view_of};
 ghost use Rattle.guest_view.specs.View.{view_ok};
 ghost use Rattle.guest_view.specs.Promises.{Judged};
 
-use crate::rules::view_ok;
+use crate::rules::words_ok;
 use map_records::view::FlatRange;
 use map_records::words::{ViewWords, count_of, range_at};
 use std::marker::Model;
@@ -32,7 +32,7 @@ impl<'a> View<'a> {
         let Some(words) = words.as_array() else {
             return None;
         };
-        if !view_ok(words, memory_length, region_size) {
+        if !words_ok(words, memory_length, region_size) {
             return None;
         }
         Some(View { words })

@@ -2,19 +2,19 @@
 use mathlib.Core.Path.{◌≡◌, ap, ◌∙◌}
 use mathlib.Core.Logic.{⊎_elim}
 use mathlib.Core.List.{List}
-use Prim.Native.Nat.{ℕ, ◌<◌}
+use Prim.Native.Nat.{ℕ, ◌<◌, ◌≤◌}
 use native.Mathlib.Omega.{arith}
 use mathlib.Core.Bool.{true}
 use mathlib.Core.Path.{refl}
 use lib.ListN.{length}
+use Rattle.map_records.specs.Limits.{map_length, most_regions}
 use Rattle.map_records.specs.Words.{map_of}
 use Rattle.map_records.proofs.Order.{eq_or_not}
 use Rattle.map_records.proofs.WordLaws.{map_other}
 use Rattle.map_check.specs.Reply.{Reply, accepted, nodes, place, plain}
-use Rattle.map_check.specs.Check.{count_fault, judged_by, judged, Accepted}
-use Rattle.map_check.specs.Promises.{Walkable, Tree, Checked}
+use Rattle.map_check.specs.Check.{count_fault, judged_by, judged, Accepted, Checked}
+use Rattle.map_check.specs.Promises.{Walkable, Tree}
 use Rattle.map_check.proofs.Accepted.{accepted_sound, accepted_walkable}
-use Rattle.map_records.specs.Limits.{map_length}
 
 pub count_other : (w : List ℕ) → (length w ≡ map_length → ⊥) → count_fault (map_of w).count ≡ true
 count_other w other = rw (map_other w other) refl
@@ -48,3 +48,6 @@ checked_some w known = accepted_some w known.memory known.accepted
 
 pub checked_walkable : (w : List ℕ) → Checked w → Walkable (map_of w)
 checked_walkable w known = accepted_walkable (map_of w) known.memory known.accepted
+
+pub checked_few : (w : List ℕ) → Checked w → (map_of w).count ≤ most_regions
+checked_few w known = (checked_walkable w known).count

@@ -1,6 +1,7 @@
 -- The check of a given map against the length of guest memory: 3, 4 and 6 to 11. Assumes nothing: these are definitions.
-use Rattle.std.specs.Prelude.{Bool, cond, ◌||◌, ◌≡◌, ℕ, eqb, ltb, Result}
+use Rattle.std.specs.Prelude.{Bool, cond, ◌||◌, ◌≡◌, List, ℕ, eqb, ltb, Result}
 use Rattle.map_records.specs.Map.{region}
+use Rattle.map_records.specs.Words.{map_of}
 use Rattle.map_check.specs.Reply.{Reply, accepted, nodes, reply_by, ◌then◌, lowest, first_pair}
 use Rattle.map_check.specs.Fault.{kind_fault, field_fault, link_fault, memory_fault}
 use Rattle.map_check.specs.Clash.{priority_of, memory_clash, managed_clash, port_clash, sibling_clash}
@@ -50,3 +51,8 @@ judged = judged_by priority_of
 -- 'A map that 1 to 11 let pass is accepted'
 unfoldable pub Accepted : RegionMap → ℕ → Type 0
 Accepted m memory = judged m memory ≡ accepted
+
+-- words that the check accepted, over some length of guest memory
+pub record Checked (w : List ℕ) : Type 0 where
+  pub memory : ℕ
+  pub accepted : Accepted (map_of w) memory

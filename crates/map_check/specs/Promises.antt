@@ -3,7 +3,6 @@ use Rattle.std.specs.Prelude.{◌≡◌, ◌≢◌, Bool, List, ℕ, ◌≤◌, 
 use Rattle.map_records.specs.Map.{alias, region}
 use Rattle.map_records.specs.Words.{map_of}
 use Rattle.map_check.specs.Reply.{Reply, accepted, nodes, ◌then◌, lowest, first_pair}
-use Rattle.map_check.specs.Check.{Accepted}
 use Rattle.map_check.specs.Fault.{kind_fault, field_fault, link_fault, memory_fault}
 use Rattle.map_check.specs.Clash.{priority_of, memory_clash, managed_clash, port_clash, sibling_clash}
 use Rattle.map_records.specs.Refusal as refusal
@@ -72,8 +71,3 @@ pub record Walkable (m : RegionMap) : Type 0 where
 pub record Tree (w : List ℕ) : Type 0 where
   pub words : length w ≡ map_length
   pub walkable : Walkable (map_of w)
-
--- words that the check accepted, over some length of guest memory
-pub record Checked (w : List ℕ) : Type 0 where
-  pub memory : ℕ
-  pub accepted : Accepted (map_of w) memory

@@ -1,12 +1,13 @@
 // The check of a given map.
-ghost use Rattle.std.specs.Prelude.{◌≡◌, IfOk};
+ghost use Rattle.std.specs.Prelude.{◌≡◌, IfOk, OnOk};
 ghost use Rattle.map_records.specs.Words.{map_of};
 ghost use Rattle.map_check.specs.Check.{fault_reply, reply, judged, Accepted};
 ghost use Rattle.map_check.specs.Promises.{on_regions, on_pairs};
 
 use crate::answer::Fault;
-use crate::checked::{CheckedMap, CountedMap};
+use crate::checked::CheckedMap;
 use crate::clash::{managed_clash, memory_clash, port_clash, sibling_clash};
+use crate::counted::CountedMap;
 use crate::fault::{field_fault, kind_fault, link_fault, memory_fault};
 use crate::search::{first_pair, lowest_fault};
 use map_records::refusal::Refusal;
@@ -81,7 +82,16 @@ fn check_pairs(map: &CountedMap) -> Result<(), MapFault>
 }
 
 // Judges a map against the length of guest memory. Words of another number than a map's are a map of no regions.
-pub fn check_map<'a>(map: &'a [u64], memory_length: u64) -> Result<CheckedMap<'a>, MapFault>
+pub fn check_map(map: &[u64], memory_length: u64) -> Result<(), MapFault>
+    ensures reply { reply result ≡ judged (map_of map.now) memory_length }
+    ensures accepted { OnOk result (Accepted (map_of map.now) memory_length) }
+{
+    checked_map(map, memory_length)?;
+    Ok(())
+}
+
+// The same, for a caller that goes on with the map: an accepted one is lent back as words that the check accepted.
+pub fn checked_map<'a>(map: &'a [u64], memory_length: u64) -> Result<CheckedMap<'a>, MapFault>
     ensures reply { reply result ≡ judged (map_of map.now) memory_length }
     ensures same { IfOk result (λ checked. (checked ≡ map.now) × Accepted (map_of map.now) memory_length) }
 {

@@ -6,7 +6,7 @@ ghost use Rattle.map_check.specs.Clash.{share as share_of, siblings as siblings_
 ghost use Rattle.map_check.specs.Clash.{priority_of, memory_clash, managed_clash, port_clash, clash_below};
 ghost use Rattle.map_check.specs.Fault.{parent_of};
 
-use crate::checked::CountedMap;
+use crate::counted::CountedMap;
 use crate::priority::priority_of;
 use map_records::kind::Kind;
 use map_records::map::{Region, has_memory};

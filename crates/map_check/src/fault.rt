@@ -3,7 +3,7 @@ ghost use Rattle.std.specs.Prelude.{◌≡◌, ◌<◌, ◌+◌};
 ghost use Rattle.map_records.specs.Words.{map_of};
 ghost use Rattle.map_check.specs.Fault.{extra as extra_of, kind_fault, field_fault, parent_fault, target_fault, root_fault, link_fault, memory_fault};
 
-use crate::checked::CountedMap;
+use crate::counted::CountedMap;
 use map_records::kind::Kind;
 use map_records::map::{Field, Region, has, has_memory};
 use map_records::numbers::{LIMIT, MOST_IN_BYTE, sum_within};

@@ -5,6 +5,7 @@ pub mod answer;
 pub mod check;
 pub mod checked;
 mod clash;
+mod counted;
 mod fault;
 pub mod priority;
 mod search;

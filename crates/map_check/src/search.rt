@@ -4,7 +4,7 @@ ghost use Rattle.map_records.specs.Words.{map_of};
 ghost use Rattle.map_records.specs.declared.map.Region.{Region};
 ghost use Rattle.map_check.specs.Promises.{Tests, TestsPairs, pairs, LowestIs, FirstIs};
 
-use crate::checked::CountedMap;
+use crate::counted::CountedMap;
 use map_records::map::Region;
 
 // The lowest region below the count that is at fault.

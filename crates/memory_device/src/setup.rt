@@ -9,11 +9,12 @@ use crate::device::MemoryDevice;
 use device_words::rules::setup_ok;
 use device_words::table::TABLE_WORDS;
 use map_check::answer::Fault;
-use map_check::check::{MapFault, check_map};
+use map_check::check::{MapFault, checked_map};
 use map_check::checked::CheckedMap;
 use map_records::kind::Kind;
 use map_records::map::GuestAddress;
 use map_records::refusal::Refusal;
+use map_records::words::region_at;
 
 // What the host chooses. The region's size is the managed region's.
 #[derive(Clone, Copy, Debug, PartialEq, Eq)]
@@ -71,8 +72,9 @@ impl From<MapFault> for SetUpFault {
 fn managed_size(map: &CheckedMap) -> u64
     ensures { result ≡ region_size (map_of map.now) }
 {
+    let words = map.words();
     (0..map.count())
-        .map(|n| map.region(n))
+        .map(|n| region_at(words, n))
         .rfind(|region| region.has_kind(Kind::Managed))
         .map_or(0, |region| region.size)
 }
@@ -85,7 +87,7 @@ pub fn set_up(
 ) -> Result<MemoryDevice, SetUpFault>
     ensures { set_up_outcome_of result ≡ set_up (map_of map.now) memory_length values }
 {
-    let map = check_map(map, memory_length)?;
+    let map = checked_map(map, memory_length)?;
     let region_size = managed_size(&map);
     if !setup_ok(
         values.block_size,

@@ -1,17 +1,16 @@
 -- Laws of the table of pieces: an empty one, and a piece put between its neighbours. Assumes nothing.
 use mathlib.Core.Path.{◌≡◌, refl, sym, ap, subst, ◌∙◌}
-use mathlib.Core.List.{List}
+use mathlib.Core.List.{List, [], ◌∷◌, append-nil}
 use mathlib.Core.Logic.{◌⊎◌, inl, inr, ⊎_elim}
 use Prim.Native.Nat.{ℕ, zero, suc, ◌+◌, ◌-◌, ◌^◌, ◌≤◌, ◌<◌}
 use native.Mathlib.Nat.{add-zero, add-suc, eq-zero-or-pos}
 use native.Mathlib.Numerals.{add-one}
 use native.Mathlib.Omega.{arith}
-use lib.ListN.{length, get_or, set, length-set, take, drop}
-use lib.Seq.{get_or-set_same, get_or-set_other}
+use lib.ListN.{length, get_or, set, length-set, take, drop, drop_of_length-le}
+use lib.Seq.{take-suc}
 use borrow.Rule.Slice.PartMut.{mid_of, post_of, put_mid, same_len_mid}
-use Rattle.std.specs.List.{RotatedRight}
 use Rattle.std.proofs.Common.{◌++◌}
-use Rattle.std.proofs.lemmas.List.{get_or_append_left, get_or-append_right, get_or-take, get_or-drop, length-take-le, length-drop}
+use Rattle.std.proofs.lemmas.List.{get_or_append_left, get_or-append_right, get_or-take, get_or-drop, append_assoc, take-set-le, drop-set, set_split, length-take-le, length-drop}
 use Rattle.std.specs.Prelude.{Option, Some, None}
 use Rattle.map_records.specs.declared.map.Found.{Found}
 use Rattle.map_records.specs.declared.map.GuestAddress.{GuestAddress}
@@ -96,43 +95,79 @@ pub record Placed (w : PieceTable) (i m h : ℕ) (p : Piece) (v : PieceTable) : 
   pub offset : piece_offset v i ≡ p.offset.0
   pub up : (j : ℕ) → i ≤ j → j < m → Same v (suc j) w j
 
--- the last of n pieces put there, and those from i on turned by one: it comes to place i, and the others up
-module _ (xs ys : List Piece) (i n : ℕ) (p : Piece) (some : i < n) (room : n ≤ length xs)
-    (turned : RotatedRight (mid_of i (n - i) (set xs (n - 1) p)) ys (length (mid_of i (n - i) (set xs (n - 1) p))) 1)
-    (size : length ys ≡ length (mid_of i (n - i) (set xs (n - 1) p))) where
-  long : length (mid_of i (n - i) (set xs (n - 1) p)) ≡ n - i
-  long = length-take-le (n - i) (drop i (set xs (n - 1) p)) (omega (arith, length-drop i (set xs (n - 1) p), length-set xs (n - 1) p))
+-- A row whose pieces move up by one, those from k on done: without the one before them it is what it was, but for the last.
+pub record MovingUp (start row : List Piece) (k : ℕ) : Type 0 where
+  pub some : 0 < k
+  pub within : k ≤ length row
+  pub rest : take (k - 1) row ++ drop k row ≡ take (length start - 1) start
 
-  front : length (take i (set xs (n - 1) p)) ≡ i
-  front = length-take-le i (set xs (n - 1) p) (omega (arith, length-set xs (n - 1) p))
+pub none_moved : (start : List Piece) → 0 < length start → MovingUp start start (length start)
+none_moved start some = record {
+  some = some;
+  within = omega arith;
+  rest =
+      ap (λ (r : List Piece). take (length start - 1) start ++ r) (drop_of_length-le start {i = length start} (omega arith))
+      ∙ append-nil (take (length start - 1) start);
+}
 
-  mid_at : (k j : ℕ) → k < n - i → i + k ≡ j → get_or (mid_of i (n - i) (set xs (n - 1) p)) k no_piece ≡ get_or (set xs (n - 1) p) j no_piece
-  mid_at k j l e =
-      get_or-take (n - i) (drop i (set xs (n - 1) p)) k no_piece l ∙ get_or-drop i (set xs (n - 1) p) k no_piece
-      ∙ ap (λ (x : ℕ). get_or (set xs (n - 1) p) x no_piece) e
+module _ (start row : List Piece) (k : ℕ) (moving : MovingUp start row k) where
+  pub moved_up : (i j : ℕ) → i + 1 ≡ k → j + 1 ≡ i → MovingUp start (set row i (get_or row j no_piece)) i
+  moved_up i j e d =
+      let x : Piece = get_or row j no_piece in
+      let within : i < length row = omega (arith, moving.within) in
+      let here : i - 1 ≡ j = omega arith in
+      let next : suc j ≡ k - 1 = omega arith in
+      let before : take (i - 1) (set row i x) ≡ take j row = take-set-le (i - 1) row i x (omega arith) ∙ ap (λ (n : ℕ). take n row) here in
+      let behind : drop i (set row i x) ≡ x ∷ drop k row = drop-set row i x within ∙ ap (λ (n : ℕ). x ∷ drop n row) e in
+      let one_more : take j row ++ x ∷ [] ≡ take (k - 1) row = sym (take-suc row j no_piece (omega arith)) ∙ ap (λ (n : ℕ). take n row) next in
+      record {
+        some = omega arith;
+        within = omega (arith, length-set row i x);
+        rest = (λ t. before t ++ behind t) ∙ sym (append_assoc (take j row) (x ∷ []) (drop k row)) ∙ ap (λ (r : List Piece). r ++ drop k row) one_more ∙ moving.rest;
+      }
 
-  turned_low : (j : ℕ) → j < i → get_or (put_mid i (n - i) (set xs (n - 1) p) ys) j no_piece ≡ get_or xs j no_piece
-  turned_low j l =
-      get_or_append_left (take i (set xs (n - 1) p)) (ys ++ post_of i (n - i) (set xs (n - 1) p)) no_piece j (omega (arith, front))
-      ∙ get_or-take i (set xs (n - 1) p) j no_piece l ∙ get_or-set_other xs (n - 1) j p no_piece (λ e. omega arith)
+  pub all_moved : (p : Piece) → k ≤ 1 → set row 0 p ≡ p ∷ take (length start - 1) start
+  all_moved p last =
+      let e : k ≡ 1 = omega (arith, moving.some) in
+      set_split row 0 p (omega (arith, moving.within, moving.some)) ∙ ap (λ (r : List Piece). p ∷ r) (rw e at moving.rest)
 
-  turned_at : (k j : ℕ) → k < n - i → i + k ≡ j → get_or (put_mid i (n - i) (set xs (n - 1) p) ys) j no_piece ≡ get_or ys k no_piece
-  turned_at k j l e =
+-- p put in at place i of n pieces, before those from there on
+module _ (xs : List Piece) (i n : ℕ) (p : Piece) (some : i < n) (room : n ≤ length xs) where
+  abbrev row : List Piece
+  row = mid_of i (n - i) xs
+
+  abbrev pub put : List Piece
+  put = p ∷ take (length row - 1) row
+
+  long : length row ≡ n - i
+  long = length-take-le (n - i) (drop i xs) (omega (arith, length-drop i xs))
+
+  pub put_long : length put ≡ length row
+  put_long = ap suc (length-take-le (length row - 1) row (omega arith)) ∙ omega (arith, long)
+
+  front : length (take i xs) ≡ i
+  front = length-take-le i xs (omega arith)
+
+  put_low : (j : ℕ) → j < i → get_or (put_mid i (n - i) xs put) j no_piece ≡ get_or xs j no_piece
+  put_low j l = get_or_append_left (take i xs) (put ++ post_of i (n - i) xs) no_piece j (omega (arith, front)) ∙ get_or-take i xs j no_piece l
+
+  put_at : (k j : ℕ) → k < n - i → i + k ≡ j → get_or (put_mid i (n - i) xs put) j no_piece ≡ get_or put k no_piece
+  put_at k j l e =
       let back : j - i ≡ k = omega arith in
-      get_or-append_right (take i (set xs (n - 1) p)) (ys ++ post_of i (n - i) (set xs (n - 1) p)) i j no_piece front (omega arith)
-      ∙ ap (λ (x : ℕ). get_or (ys ++ post_of i (n - i) (set xs (n - 1) p)) x no_piece) back
-      ∙ get_or_append_left ys (post_of i (n - i) (set xs (n - 1) p)) no_piece k (omega (arith, size, long))
+      get_or-append_right (take i xs) (put ++ post_of i (n - i) xs) i j no_piece front (omega arith)
+      ∙ ap (λ (x : ℕ). get_or (put ++ post_of i (n - i) xs) x no_piece) back
+      ∙ get_or_append_left put (post_of i (n - i) xs) no_piece k (omega (arith, put_long, long))
 
-  turned_here : get_or (put_mid i (n - i) (set xs (n - 1) p) ys) i no_piece ≡ p
-  turned_here =
-      turned_at 0 i (omega arith) (omega arith) ∙ turned.0 0 no_piece (omega arith)
-      ∙ mid_at (length (mid_of i (n - i) (set xs (n - 1) p)) - 1 + 0) (n - 1) (omega (arith, long)) (omega (arith, long))
-      ∙ get_or-set_same xs (n - 1) p no_piece (omega arith)
+  put_here : get_or (put_mid i (n - i) xs put) i no_piece ≡ p
+  put_here = put_at 0 i (omega arith) (omega arith)
 
-  turned_up : (j : ℕ) → i ≤ j → j < n - 1 → get_or (put_mid i (n - i) (set xs (n - 1) p) ys) (suc j) no_piece ≡ get_or xs j no_piece
-  turned_up j g l =
-      turned_at (suc j - i) (suc j) (omega arith) (omega arith) ∙ turned.1 (suc j - i) no_piece (omega arith) (omega (arith, long))
-      ∙ mid_at (suc j - i - 1) j (omega arith) (omega arith) ∙ get_or-set_other xs (n - 1) j p no_piece (λ e. omega arith)
+  put_up : (j : ℕ) → i ≤ j → j < n - 1 → get_or (put_mid i (n - i) xs put) (suc j) no_piece ≡ get_or xs j no_piece
+  put_up j g l =
+      let back : i + (j - i) ≡ j = omega arith in
+      put_at (suc (j - i)) (suc j) (omega arith) (omega arith)
+      ∙ get_or-take (length row - 1) row (j - i) no_piece (omega (arith, long))
+      ∙ get_or-take (n - i) (drop i xs) (j - i) no_piece (omega arith) ∙ get_or-drop i xs (j - i) no_piece
+      ∙ ap (λ (x : ℕ). get_or xs x no_piece) back
 
 same : {v w : PieceTable} {j k : ℕ} → piece v j ≡ piece w k → Same v j w k
 same e = record {
@@ -144,26 +179,25 @@ same e = record {
 
 -- u has room for one piece more than m of w's: with that piece put in
 pub placed : (w u : PieceTable) (i m h : ℕ) (p : Piece) (ys : List Piece) → length w.pieces ≡ 256 → u.pieces ≡ w.pieces → u.start ≡ w.start → u.count ≡ m + 1 → u.horizon.0 ≡ h → i ≤ m → m < 256
-    → RotatedRight (mid_of i (u.count - i) (set u.pieces (u.count - 1) p)) ys (length (mid_of i (u.count - i) (set u.pieces (u.count - 1) p))) 1
-    → length ys ≡ length (mid_of i (u.count - i) (set u.pieces (u.count - 1) p))
-    → Placed w i m h p (record { count = u.count; horizon = u.horizon; start = u.start; pieces = put_mid i (u.count - i) (set u.pieces (u.count - 1) p) ys })
-placed w u i m h p ys size pieces start count horizon im few turned len =
+    → ys ≡ p ∷ take (length (mid_of i (u.count - i) u.pieces) - 1) (mid_of i (u.count - i) u.pieces)
+    → Placed w i m h p (record { count = u.count; horizon = u.horizon; start = u.start; pieces = put_mid i (u.count - i) u.pieces ys })
+placed w u i m h p ys size pieces start count horizon im few put =
     let some : i < u.count = omega (arith, count) in
     let room : u.count ≤ length u.pieces = omega (arith, count, ap length pieces) in
-    let here = turned_here u.pieces ys i u.count p some room turned len in
+    let here = put_here u.pieces i u.count p some room in
     let kept : (j : ℕ) → piece u j ≡ piece w j = λ j. ap (λ (ps : List Piece). get_or ps j no_piece) pieces in
-    record {
-      size = same_len_mid i (u.count - i) (set u.pieces (u.count - 1) p) ys len ∙ length-set u.pieces (u.count - 1) p ∙ ap length pieces ∙ size;
+    rw put (record {
+      size = same_len_mid i (u.count - i) u.pieces (p ∷ take (length (mid_of i (u.count - i) u.pieces) - 1) (mid_of i (u.count - i) u.pieces)) (put_long u.pieces i u.count p some room) ∙ ap length pieces ∙ size;
       count = count;
       horizon = horizon;
       start = ap (λ (a : GuestAddress). a.0) start;
-      low = λ j l. same (turned_low u.pieces ys i u.count p some room turned len j l ∙ kept j);
+      low = λ j l. same (put_low u.pieces i u.count p some room j l ∙ kept j);
       first = ap (λ (p : Piece). p.first.0) here;
       end = ap (λ (p : Piece). p.end.0) here;
       region = ap (λ (p : Piece). p.region) here;
       offset = ap (λ (p : Piece). p.offset.0) here;
-      up = λ j g l. same (turned_up u.pieces ys i u.count p some room turned len j g (omega (arith, count)) ∙ kept j);
-    }
+      up = λ j g l. same (put_up u.pieces i u.count p some room j g (omega (arith, count)) ∙ kept j);
+    })
 
 -- a place is below i, i, or above it
 places : (i m : ℕ) (P : ℕ → Type 0) → ((j : ℕ) → j < i → P j) → P i → ((j : ℕ) → i ≤ j → j < m → P (suc j)) → (j : ℕ) → j < m + 1 → P j

@@ -5,6 +5,7 @@ ghost use Rattle.map_check.specs.Clash.{priority_of};
 ghost use Rattle.region_map.specs.Walk.{rank as rank_of, ranks};
 ghost use Rattle.region_map.specs.Promises.{NextChild};
 
+use crate::regions::region_in;
 use map_check::checked::CheckedMap;
 use map_check::priority::priority_of;
 use map_records::map::REGIONS;
@@ -17,7 +18,7 @@ fn rank(map: &CheckedMap, c: usize) -> usize
     requires { c < (map_of map.now).count }
     ensures { result ≡ rank_of priority_of (map_of map.now) c }
 {
-    let region = map.region(c);
+    let region = region_in(map, c);
     (priority_of(region) as usize) * REGIONS + c
 }
 
@@ -30,7 +31,7 @@ pub fn next_child(map: &CheckedMap, n: usize, below: usize) -> Option<usize>
     let mut best: usize = 0;
     // By number, since regions lie as words, of which no iterator of std makes regions.
     for c in 0..n {
-        if map.region(c).parent == n + 1 {
+        if region_in(map, c).parent == n + 1 {
             let r = rank(map, c);
             if r < below && best <= r {
                 best = r + 1;

@@ -9,13 +9,14 @@ ghost use Rattle.map_records.specs.Limits.{most_regions};
 ghost use Rattle.region_map.specs.Promises.{Viewed, NoEmptyRange, Grows, Emits};
 
 use crate::pieces::{AddressSpan, PieceTable, nearer};
+use crate::regions::region_in;
 use crate::render::render;
 use crate::resolve::root_offset;
 use map_check::checked::CheckedMap;
 use map_records::kind::Kind;
 use map_records::map::{GuestAddress, Region};
 use map_records::view::{FlatRange, RANGES};
-use map_records::words::{ViewWords, count_of, put_count, put_range, range_at};
+use map_records::words::{ViewWords, count_of, put_count, put_range, range_at, region_at};
 
 // What a range carries of its region: the kind, and the memory start or port.
 #[derive(Clone, Copy)]
@@ -86,7 +87,7 @@ fn backing_of(map: &CheckedMap, n: usize) -> Backing
     requires { n < most_regions }
     ensures { result ≡ backing_of (map_of map.now) n }
 {
-    let region = map.slot(n);
+    let region = region_at(map.words(), n);
     Backing {
         kind: region.kind,
         base: base_of(region),
@@ -136,7 +137,7 @@ pub fn sweep(map: &CheckedMap, view: &mut ViewWords) -> Result<(), TooManyRanges
     ensures { Grows (flat_list (map_of map.now)) view.old result view.new }
 {
     let root = map.count() - 1;
-    let region = map.region(root);
+    let region = region_in(map, root);
     let end = root_end(region.size);
     let mut table = PieceTable::new();
     let mut at = GuestAddress(0);

@@ -5,6 +5,7 @@
 mod children;
 mod flat;
 mod pieces;
+mod regions;
 mod render;
 pub mod resolve;
 pub mod view;

@@ -1,7 +1,7 @@
 // The table of pieces that the flat view is made from. A piece is a stretch of addresses that lead to one
 // region. The table is filled from the highest priority down, so that a piece takes only what is free.
 // Where it is full, what lies furthest gives way and the horizon comes nearer: below it the table is whole.
-ghost use Rattle.std.specs.Prelude.{◌≡◌, ◌+◌, ◌*◌, ◌≤◌, ◌<◌, min, take};
+ghost use Rattle.std.specs.Prelude.{◌≡◌, ◌+◌, ◌*◌, ◌≤◌, ◌<◌, ◌-◌, min, take, length, ◌∷◌};
 ghost use Rattle.region_map.specs.Pieces.{piece, piece_shows, seen, itself, is_taken};
 ghost use Rattle.region_map.specs.Pieces.{BegunTable, Pieces, SpanFits, Behind, PieceSpot, Fits, Free, TakenUpTo};
 ghost use Rattle.map_records.specs.Limits.{limit, most_regions};
@@ -40,6 +40,28 @@ pub fn nearer(a: GuestAddress, b: GuestAddress) -> GuestAddress
     ensures { result.0 ≡ min a.0 b.0 }
 {
     GuestAddress(a.0.min(b.0))
+}
+
+// A piece put in before the others of a row, whose last one gives way. They move up by one, the last first: not by
+// `rotate_right` or `copy_within`, which call `memmove`, and a host without a C library brings only `memcpy` and
+// `memset`. Four move in each turn, since 256 pieces that are found the last first take 32,640 moves.
+fn put_first(row: &mut [Piece], piece: Piece)
+    requires { 0 < length row.old }
+    ensures { row.new ≡ piece ∷ take (length row.old - 1) row.old }
+{
+    let mut k = row.len();
+    while 4 < k {
+        k -= 4;
+        row[k + 3] = row[k + 2];
+        row[k + 2] = row[k + 1];
+        row[k + 1] = row[k];
+        row[k] = row[k - 1];
+    }
+    while 1 < k {
+        k -= 1;
+        row[k] = row[k - 1];
+    }
+    row[0] = piece;
 }
 
 // The first `count` pieces, ascending: from `start` up to the horizon they are all that there is. `start` stands
@@ -107,9 +129,7 @@ impl PieceTable {
         } else {
             self.count += 1;
         }
-        let count = self.count;
-        self.pieces[count - 1] = piece;
-        self.pieces[i..count].rotate_right(1);
+        put_first(&mut self.pieces[i..self.count], piece);
     }
 
     // The place of an address among the pieces.

@@ -9,6 +9,7 @@ ghost use Rattle.map_records.specs.Limits.{limit};
 
 use crate::children::{RANKS, next_child};
 use crate::pieces::{AddressSpan, PieceTable};
+use crate::regions::region_in;
 use map_check::checked::CheckedMap;
 use map_records::kind::Kind;
 use map_records::map::{GuestAddress, REGIONS, RegionOffset};
@@ -20,7 +21,7 @@ pub fn render(map: &CheckedMap, table: &mut PieceTable, n: usize, at: AddressSpa
     requires span_fits { SpanFits table.old at }
     ensures { Behind table.old (seen (walk_of (map_of map.now) n) at) table.new }
 {
-    let region = map.region(n);
+    let region = region_in(map, n);
     let size = region.size;
     let first = at.first;
     let offset = at.offset;
@@ -59,13 +60,13 @@ fn render_children(
         (seen (tried_in (map_of map.now) n below) at) table.new }
 {
     let Some(next) = next_child(map, n, below) else {
-        if !map.region(n).has_kind(Kind::Container) {
+        if !region_in(map, n).has_kind(Kind::Container) {
             table.fill(n, at);
         }
         return;
     };
     let c = next % REGIONS;
-    let child = map.region(c);
+    let child = region_in(map, c);
     let begins = child.offset;
     let end = at.end;
     if begins <= at.offset.0 {

@@ -4,7 +4,7 @@ ghost use Rattle.map_records.specs.Words.{map_of};
 ghost use Rattle.region_map.specs.Resolve.{resolved, led_by};
 
 use crate::walk::walk;
-use map_check::check::{MapFault, check_map};
+use map_check::check::{MapFault, checked_map};
 use map_records::map::{Found, GuestAddress, RegionOffset};
 
 // A guest address is walked from the root: there it is the offset.
@@ -22,7 +22,7 @@ pub fn resolve_address(
 ) -> Result<Option<Found>, MapFault>
     ensures { led_by result ≡ resolved (map_of map.now) memory_length address.0 }
 {
-    let map = check_map(map, memory_length)?;
+    let map = checked_map(map, memory_length)?;
     let root = map.count() - 1;
     Ok(walk(&map, root, root_offset(address)))
 }

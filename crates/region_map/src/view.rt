@@ -6,7 +6,7 @@ ghost use Rattle.region_map.specs.declared.view.FlatFault.TheVariants.{Map, TooM
 
 use crate::flat::{TooManyRanges, sweep};
 use map_check::answer::Fault;
-use map_check::check::{MapFault, check_map};
+use map_check::check::{MapFault, checked_map};
 use map_records::refusal::Refusal;
 use map_records::words::VIEW_WORDS;
 
@@ -55,7 +55,7 @@ pub fn flatten(map: &[u64], memory_length: u64, view: &mut [u64]) -> Result<(), 
     if view.len() != VIEW_WORDS {
         return Err(FlatFault::Record);
     }
-    let map = check_map(map, memory_length)?;
+    let map = checked_map(map, memory_length)?;
     let mut made = [0u64; VIEW_WORDS];
     sweep(&map, &mut made)?;
     view.copy_from_slice(&made);

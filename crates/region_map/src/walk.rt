@@ -6,6 +6,7 @@ ghost use Rattle.map_records.specs.Words.{map_of};
 ghost use Rattle.region_map.specs.Promises.{tried_in};
 
 use crate::children::{RANKS, next_child};
+use crate::regions::region_in;
 use map_check::checked::CheckedMap;
 use map_records::kind::Kind;
 use map_records::map::{Found, REGIONS, RegionOffset};
@@ -17,7 +18,7 @@ pub fn walk(map: &CheckedMap, n: usize, at: RegionOffset) -> Option<Found>
     ensures { result ≡ walk_of (map_of map.now) n at.0 }
 {
     let a = at.0;
-    let region = map.region(n);
+    let region = region_in(map, n);
     if region.size <= a {
         return None;
     }
@@ -34,7 +35,7 @@ fn walk_children(map: &CheckedMap, n: usize, at: RegionOffset, below: usize) -> 
     ensures { result ≡ tried_in (map_of map.now) n below at.0 }
 {
     let Some(next) = next_child(map, n, below) else {
-        if map.region(n).has_kind(Kind::Container) {
+        if region_in(map, n).has_kind(Kind::Container) {
             return None;
         }
         return Some(Found {
@@ -44,7 +45,7 @@ fn walk_children(map: &CheckedMap, n: usize, at: RegionOffset, below: usize) -> 
     };
     let c = next % REGIONS;
     let a = at.0;
-    let child = map.region(c);
+    let child = region_in(map, c);
     if a < child.offset {
         return walk_children(map, n, at, next);
     }

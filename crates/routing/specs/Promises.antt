@@ -1,5 +1,5 @@
 -- What the functions inside the crate promise each other. No promise of an entry point cites these. Assumes nothing: these are definitions.
-use Rattle.std.specs.Prelude.{◌≡◌, Bool, true, false, ◌&&◌, List, Option, None, Some, Result, Ok, Err, ℕ, ◌+◌}
+use Rattle.std.specs.Prelude.{◌≡◌, Bool, true, false, ◌&&◌, List, Option, None, Some, Result, Ok, Err, ℕ, ◌+◌, ◌≤◌}
 use Rattle.map_check.specs.declared.answer.RecordFault.{RecordFault}
 use Rattle.map_records.specs.View.{entries}
 use Rattle.map_records.specs.Words.{view_of}
@@ -23,9 +23,10 @@ abbrev pub given_ok : FlatView → ℕ → Option MemoryDevice → Bool
 given_ok v memory None = view_ok v memory no_region_bound
 given_ok v memory (Some d) = view_ok v memory d.region_size && device_ok d
 
--- what to ask about, where it does
+-- what to ask about, where it does: no block is shorter than an access
 pub record AskedOk (view : List ℕ) (memory : ℕ) (d : Option MemoryDevice) (g : Guest) : Type 0 where
   pub ok : given_ok (view_of view) memory d ≡ true
+  pub large : 8 ≤ g.blocks.size
   pub routes : routed_given (view_of view) memory d ≡ routed_in g.view g.blocks.size g.blocks.plugged.now
 
 abbrev pub Asked : List ℕ → ℕ → Option MemoryDevice → Result Guest RecordFault → Type 0

@@ -14,7 +14,7 @@ ghost use Rattle.routing.specs.Promises.{is_whole, routed_in, Asked};
 use crate::answer::{Route, RouteFault};
 use crate::view::NO_REGION;
 use device_words::rules::valid;
-use device_words::table::{TABLE_WORDS, TableWords};
+use device_words::table::TABLE_WORDS;
 use device_words::words::{block_size, plugged, region_size};
 use guest_view::place::{offset_in, place_of};
 use guest_view::reach::{Blocks, Guest};
@@ -25,8 +25,6 @@ use map_records::map::{GuestAddress, RegionOffset};
 
 // Given no device, no block is plugged: a table of zeros, over blocks of any size.
 const ANY_BLOCK_SIZE: u64 = 4096;
-
-static NONE_PLUGGED: TableWords = [0; TABLE_WORDS];
 
 fn width_ok(w: u64) -> bool
     ensures { result ≡ width_ok w }
@@ -73,7 +71,8 @@ fn is_whole(view: &View, at: usize, a: GuestAddress, w: u64) -> bool
 
 // Are the blocks of an access plugged? They are at most two, since no block is shorter than it.
 fn blocks_plugged(blocks: &Blocks, offset: RegionOffset, w: u64) -> bool
-    requires { (0 < w) × (w ≤ 8) × (offset.0 < limit) }
+    requires le_block { 8 ≤ blocks.now.size }
+    requires w_nonzero { (0 < w) × (w ≤ 8) × (offset.0 < limit) }
     ensures { result ≡ all_below (λ i. plugged_in blocks.now.size blocks.now.plugged.now (offset.0 + i)) w }
 {
     if !blocks.byte_plugged(offset) {
@@ -88,7 +87,8 @@ fn blocks_plugged(blocks: &Blocks, offset: RegionOffset, w: u64) -> bool
 
 // An access over a view that was judged, with what the search for its first byte gave.
 fn route_at(guest: &Guest, at: usize, a: GuestAddress, w: u64) -> Result<Route, RouteFault>
-    requires { Spot (view_of guest.now.view) a.0 at }
+    requires le_block { 8 ≤ guest.now.blocks.size }
+    requires spot { Spot (view_of guest.now.view) a.0 at }
     ensures { routed_by result
         ≡ routed_in guest.now.view guest.now.blocks.size guest.now.blocks.plugged.now a.0 w }
 {
@@ -134,7 +134,7 @@ fn judged_guest<'v, 'd>(
         };
         let blocks = Blocks {
             size: ANY_BLOCK_SIZE,
-            plugged: &NONE_PLUGGED,
+            plugged: &[0; TABLE_WORDS],
         };
         return Ok(Guest { view, blocks });
     };
@@ -194,7 +194,8 @@ fn put_answer(answers: &mut [u64], i: usize, answer: Result<Route, RouteFault>)
 
 // Each access in turn, over a view that was judged. The range of the one before is tried first.
 fn routes_judged(guest: &Guest, accesses: &[u64], answers: &mut [u64])
-    requires { answers_fit accesses.now answers.old ≡ true }
+    requires le_block { 8 ≤ guest.now.blocks.size }
+    requires answers_value { answers_fit accesses.now answers.old ≡ true }
     ensures { answers.new
         ≡ answers_of (routed_in guest.now.view guest.now.blocks.size guest.now.blocks.plugged.now) accesses.now }
 {

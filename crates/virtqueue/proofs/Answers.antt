@@ -1,10 +1,11 @@
 -- A promise fixes the code's answer: two answers of the code that stand for one of document 01's are equal. Assumes nothing.
-use Rattle.std.proofs.Common.{◌≡◌, ℕ, cond, false, eqb, refl, ap}
+use Rattle.std.proofs.Common.{◌≡◌, ℕ, cond, false, eqb, refl, ap, arith}
 use Rattle.std.specs.Prelude.{Option, Some, None, Result, Ok, Err}
 use Rattle.map_check.specs.Reply.{Reply, number_of, passes, reply_by}
 use Rattle.map_check.specs.declared.answer.RecordFault.{RecordFault}
 use Rattle.map_check.proofs.Answers.{injective}
-use Rattle.virtqueue.specs.Queue.{queue_fault_reply, record_fault_reply, stop_number, stop_reply, Given, given_by}
+use Rattle.memory_device.specs.Record.{record_reply}
+use Rattle.virtqueue.specs.Queue.{queue_fault_reply, record_fault_reply, queue_reply, stop_number, stop_reply, Given, given_by}
 use Rattle.virtqueue.specs.Step as step
 use Rattle.virtqueue.specs.Does.{step_fault, step_fault_reply, answer_of}
 use Rattle.virtqueue.specs.Run as run
@@ -77,6 +78,25 @@ pub run_replies : (e : Result RunEnd StepFault) → run.end_reply (run.run_end_o
 run_replies (Ok end.AllDone) = refl
 run_replies (Ok end.Idle) = refl
 run_replies (Err f) = refl
+
+-- of making a queue, and of a reset (`record_reply_injective` of `memory_device`): the answer alone is determined by its reply
+queue_answer_of : Reply → Result Unit QueueFault
+queue_answer_of r = cond (passes r) (Ok tt) (Err (record {}))
+
+queue_back : (a : Result Unit QueueFault) → queue_answer_of (queue_reply a) ≡ a
+unfolding queue_answer_of
+queue_back (Ok _) = refl
+queue_back (Err f) = refl
+
+pub queue_reply_injective : (a b : Result Unit QueueFault) → queue_reply a ≡ queue_reply b → a ≡ b
+queue_reply_injective = injective queue_reply queue_answer_of queue_back
+
+-- and one of the two calls is answered as the other only where neither is refused
+pub queue_replies_apart : (a : Result Unit QueueFault) (b : Result Unit RecordFault) → queue_reply a ≡ record_reply b → (a ≡ Ok tt) × (b ≡ Ok tt)
+queue_replies_apart (Ok _) (Ok _) e = (refl, refl)
+queue_replies_apart (Ok _) (Err f) e = absurd (omega (arith, ap number_of e))
+queue_replies_apart (Err f) (Ok _) e = absurd (omega (arith, ap number_of e))
+queue_replies_apart (Err f) (Err g) e = absurd (omega (arith, ap number_of e))
 
 given_to : {E : Type 0} → E → Given → Result SplitQueue E
 given_to e g = cond (passes g.reply) (Ok g.queue) (Err e)

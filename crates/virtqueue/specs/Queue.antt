@@ -1,7 +1,7 @@
 -- The split queue's record: 16, 27, making and reset, and where its areas lie. Assumes nothing: these are definitions.
 use Rattle.std.specs.Prelude.{◌≡◌, ℕ, ◌+◌, ◌-◌, ◌*◌, ◌%◌, Bool, cond, ◌&&◌, ◌||◌, ◌==◌, nat_le, Result, Ok, Err, Option, MatchOption}
 use Rattle.map_records.specs.Limits.{limit}
-use Rattle.map_check.specs.Reply.{Reply, accepted, plain}
+use Rattle.map_check.specs.Reply.{Reply, accepted, plain, reply_by}
 use Rattle.map_records.specs.Refusal as refusal
 use Rattle.virtqueue.specs.declared.queue.SplitQueue.{SplitQueue}
 use Rattle.virtqueue.specs.declared.queue.QueueFault.{QueueFault}
@@ -77,6 +77,10 @@ queue_fault_reply f = plain refusal.QUEUE
 
 abbrev pub record_fault_reply : RecordFault → Reply
 record_fault_reply f = plain refusal.RECORD
+
+-- and for each answer of making a queue; a reset's is that of any call refused with 27 alone, `record_reply`
+abbrev pub queue_reply : {A : Type 0} → Result A QueueFault → Reply
+queue_reply = reply_by queue_fault_reply
 
 -- a call that makes a record returned r, where `left` stands for the record of a refusal
 abbrev pub given_by : {E : Type 0} → (E → Reply) → SplitQueue → Result SplitQueue E → Given

@@ -1,5 +1,5 @@
 // One step of the queue, with the device changed where it lies.
-ghost use Rattle.std.specs.Prelude.{◌≡◌, true, false, MatchOption};
+ghost use Rattle.std.specs.Prelude.{◌≡◌};
 ghost use Rattle.map_records.specs.Words.{view_of};
 ghost use Rattle.device_words.specs.Words.{device_of};
 ghost use Rattle.virtqueue.specs.Step.{records_ok, stepped};
@@ -7,32 +7,8 @@ ghost use Rattle.virtqueue.specs.Does.{DoesIn};
 ghost use Rattle.virtqueue.specs.Promises.{refused_step};
 
 use crate::queue::SplitQueue;
-use crate::serve::step_judged;
+use crate::serve::{judged_view, step_judged};
 use crate::step::{Moved, StepFault};
-use device_words::rules::device_ok;
-use device_words::words::{DeviceWords, region_size};
-use guest_view::view::View;
-
-// The view, where the three records keep 27's rules over a memory of this length.
-pub fn judged_view<'a>(
-    view: &'a [u64],
-    device: &DeviceWords,
-    queue: SplitQueue,
-    memory_length: u64,
-) -> Option<View<'a>>
-    ensures { MatchOption result
-        (records_ok (view_of view.now) (device_of device.now) queue memory_length ≡ false)
-        (λ v. (v ≡ view.now)
-        × (records_ok (view_of view.now) (device_of device.now) queue memory_length ≡ true)) }
-{
-    let Some(view) = View::new(view, memory_length, region_size(device)) else {
-        return None;
-    };
-    if !(device_ok(device) & queue.keeps_rules()) {
-        return None;
-    }
-    Some(view)
-}
 
 // Do the three records keep 27's rules, over a memory of this length?
 pub fn records_ok(view: &[u64], device: &[u64], queue: SplitQueue, memory_length: u64) -> bool

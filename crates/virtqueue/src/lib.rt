@@ -3,7 +3,7 @@
 
 mod chain;
 pub mod in_place;
-pub mod lent;
+mod lent;
 pub mod queue;
 mod ring;
 pub mod run;

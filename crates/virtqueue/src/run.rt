@@ -5,9 +5,8 @@ ghost use Rattle.device_words.specs.Words.{device_of};
 ghost use Rattle.virtqueue.specs.Run.{RunDoes, ran};
 ghost use Rattle.virtqueue.specs.Promises.{refused_run};
 
-use crate::in_place::judged_view;
 use crate::queue::SplitQueue;
-use crate::serve::step_judged;
+use crate::serve::{judged_view, step_judged};
 use crate::step::{Moved, StepFault};
 
 // The most steps of a run.

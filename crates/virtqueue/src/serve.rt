@@ -1,10 +1,10 @@
-// The writing half of a step, and the step on records that were judged.
-ghost use Rattle.std.specs.Prelude.{◌≡◌, true, length};
+// The writing half of a step, the judging of its records, and the step on records that were judged.
+ghost use Rattle.std.specs.Prelude.{◌≡◌, true, false, length, MatchOption};
 ghost use Rattle.device_words.specs.Promises.{Sized};
 ghost use Rattle.map_records.specs.Words.{view_of};
 ghost use Rattle.guest_view.specs.Promises.{Within, place_in};
 ghost use Rattle.device_words.specs.Words.{device_of, device_words};
-ghost use Rattle.virtqueue.specs.Step.{used_places, used_bytes, carrying, served_memory};
+ghost use Rattle.virtqueue.specs.Step.{records_ok, used_places, used_bytes, carrying, served_memory};
 ghost use Rattle.virtqueue.specs.Does.{DoesIn};
 ghost use Rattle.virtqueue.specs.Promises.{UsedIn, Stepping, stepped_in};
 ghost use Rattle.device_words.specs.Bytes.{response_length};
@@ -18,7 +18,8 @@ use crate::step::{Moved, Served, StepFault};
 use crate::take::take;
 use device_words::answer::respond;
 use device_words::bytes::{REQUEST_BYTES, RESPONSE_BYTES};
-use device_words::words::{DeviceWords, block_size, plugged};
+use device_words::rules::words_ok;
+use device_words::words::{DeviceWords, block_size, plugged, region_size};
 use guest_view::memory::write_bytes;
 use guest_view::reach::{Blocks, Guest};
 use guest_view::view::View;
@@ -70,6 +71,28 @@ fn serve(
     let response = respond(device, request);
     write_bytes(mem, places, &response);
     write_bytes(mem, used, bytes);
+}
+
+// The view, where the three records keep 27's rules over a memory of this length.
+pub fn judged_view<'a>(
+    view: &'a [u64],
+    device: &DeviceWords,
+    queue: SplitQueue,
+    memory_length: u64,
+) -> Option<View<'a>>
+    ensures { MatchOption result
+        (records_ok (view_of view.now) (device_of device.now) queue memory_length ≡ false)
+        (λ v. (v ≡ view.now)
+        × (records_ok (view_of view.now) (device_of device.now) queue memory_length ≡ true)) }
+{
+    let region = region_size(device);
+    let Some(view) = View::new(view, memory_length, region) else {
+        return None;
+    };
+    if !(words_ok(device) & queue.keeps_rules()) {
+        return None;
+    }
+    Some(view)
 }
 
 // One step on records that keep 27's rules. The device is changed where it lies, once, by the request.

@@ -2,7 +2,6 @@
 use mathlib.Core.Path.{◌≡◌, refl, ap, ◌∙◌}
 use mathlib.Core.Bool.{Bool, true, false, cond}
 use mathlib.Core.List.{List, []}
-use Rattle.std.specs.Prelude.{MatchResult, IsOkAnd}
 use Prim.Native.Nat.{ℕ}
 use Rattle.std.proofs.Common.{Result, Ok, Err, Option, Some, None}
 use Rattle.map_check.specs.Reply.{Reply, plain, reply_by}
@@ -36,13 +35,6 @@ told_as (n, x) e = (n ∙ ap (λ (y : Report). y.number) e, x ∙ ap (λ (y : Re
 pub reply_told : {E : Type 0} (fault : E → Reply) (a : Result Unit E) → told_by (λ _. []) (λ e. places (fault e)) fault a ≡ reply_report (reply_by fault a)
 reply_told fault (Ok a) = refl
 reply_told fault (Err e) = refl
-
--- an answer of which only the refusal is kept
-pub reply_mapped : {A E : Type 0} (Q : A → Unit → Type 0) (fault : E → Reply) (a : Result A E) (r : Result Unit E)
-    → MatchResult a (λ x. IsOkAnd r (Q x)) (λ e. r ≡ Err e) → reply_by fault r ≡ reply_by fault a
-reply_mapped Q fault (Ok x) (Ok y) _ = refl
-reply_mapped Q fault (Ok x) (Err _) p = absurd p
-reply_mapped Q fault (Err e) r p = ap (reply_by fault) p
 
 pub walk_told : (a : Result (Option Found) MapFault) → told_by found_words (λ e. places (fault_reply e)) fault_reply a ≡ walk_result (led_by a)
 walk_told (Ok x) = refl

@@ -57,7 +57,7 @@ pub fn wt_check_map(map: &[u64], memory_length: u64, res: &mut [u64]) -> u64
     let Some(res) = res.as_mut_array() else {
         return refused(Refusal::Record);
     };
-    tell(res, check_map(map, memory_length).map(|_| ()))
+    tell(res, check_map(map, memory_length))
 }
 
 // The call walks through the tree to an address. The result has 1, the region that the address leads to

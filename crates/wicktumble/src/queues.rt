@@ -1,7 +1,7 @@
 // The split queue: making and reset, one step, a run of steps.
 ghost use Rattle.std.specs.Prelude.{◌≡◌, [], List, ℕ};
-ghost use Rattle.virtqueue.specs.Queue.{made, queue_fault_reply};
-ghost use Rattle.map_check.specs.Reply.{number_of, reply_by};
+ghost use Rattle.virtqueue.specs.Queue.{made, queue_reply};
+ghost use Rattle.map_check.specs.Reply.{number_of};
 ghost use Rattle.memory_device.specs.Record.{record_reply};
 ghost use Rattle.wicktumble.specs.Devices.{ReturnsWords};
 ghost use Rattle.wicktumble.specs.Queues.{gives, make_call, reset_queue_call, ReturnsStep, step_call, run_call};
@@ -28,7 +28,7 @@ fn put_made(
     words: &mut [u64; QUEUE_WORDS],
 ) -> Result<(), QueueFault>
     ensures { ReturnsWords (gives (made size descriptors available used) words.old)
-        (number_of (reply_by queue_fault_reply result)) words.new }
+        (number_of (queue_reply result)) words.new }
 {
     // Past 16 bits it is no power of two from 1 to 256.
     let Ok(size) = u16::try_from(size) else {

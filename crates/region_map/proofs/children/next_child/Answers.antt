@@ -16,7 +16,7 @@ use Rattle.map_records.specs.Words.{map_of}
 use Rattle.map_check.proofs.MapWords.{checked_walkable}
 use Rattle.region_map.proofs.WalkLaws.{looked, is_ranked, child_below}
 use Rattle.region_map.proofs.children.next_child.Invariants.{Looked}
-use Rattle.region_map.proofs.children.next_child.Goals.{then-region-n+then-r-below+then-best-r, then-region-n+else-r-below, else-region-n}
+use Rattle.region_map.proofs.children.next_child.Goals.{then-region_in-n+then-r-below+then-best-r, then-region_in-n+else-r-below, else-region_in-n}
 use Rattle.region_map.proofs.children.next_child.Goals as goal
 
 kept : (m : RegionMap) (n below best best' c : ℕ) → Looked m n below best c → c < n → best' ≡ best → ((region m c).parent ≡ n + 1 → (rank priority_of m c < best) ⊎ (below ≤ rank priority_of m c)) → Looked m n below best' (c + 1)
@@ -45,7 +45,7 @@ loop-c-init c = (omega arith, omega arith, λ k e. absurd (omega arith), λ k a 
 
 pub overflow_add-n : goal.overflow_add-n
 overflow_add-n c =
-    omega (arith, c.requires.0, (checked_walkable _ c.region.ensures.checked).count)
+    omega (arith, c.requires.0, (checked_walkable _ c.region_in.ensures.checked).count)
 
 pub overflow_add-best : goal.overflow_add-best
 overflow_add-best c =
@@ -63,13 +63,13 @@ loop-c-preserved c =
     let m = map_of a.map.now in
     let l = c.loop-c in
     let lt = c.loop-c-test.true in
-    let parent = ap (λ (r : Region). r.parent) c.region.ensures.region in
-    let go_on : (c.if-region-n.best ≡ l.best) → ((region m l.c).parent ≡ a.n + 1 → (rank priority_of m l.c < l.best) ⊎ (a.below ≤ rank priority_of m l.c)) → Looked m a.n a.below c.if-region-n.best (l.c + 1)
-    = kept m a.n a.below l.best c.if-region-n.best l.c l.invariant lt in
-    elim c.if-region-n.branch [
-      | then-region-n+then-r-below+then-best-r w ↦ found m a.n a.below l.best c.if-region-n.best l.c l.invariant lt (omega (arith, lt, c.requires.0, (checked_walkable _ c.region.ensures.checked).count)) (omega arith) (sym parent ∙ w.if-region-n.true) (omega arith) (omega arith)
-      | then-region-n+else-r-below w ↦ go_on w.best-is (λ _. ⊎_elim (λ p. inl (omega arith)) (λ q. inr (omega arith)) w.else-r-below.either)
-      | else-region-n w ↦ go_on w.best-is (λ p. absurd (w.if-region-n.false (parent ∙ p)))
+    let parent = ap (λ (r : Region). r.parent) c.region_in.ensures.region in
+    let go_on : (c.if-region_in-n.best ≡ l.best) → ((region m l.c).parent ≡ a.n + 1 → (rank priority_of m l.c < l.best) ⊎ (a.below ≤ rank priority_of m l.c)) → Looked m a.n a.below c.if-region_in-n.best (l.c + 1)
+    = kept m a.n a.below l.best c.if-region_in-n.best l.c l.invariant lt in
+    elim c.if-region_in-n.branch [
+      | then-region_in-n+then-r-below+then-best-r w ↦ found m a.n a.below l.best c.if-region_in-n.best l.c l.invariant lt (omega (arith, lt, c.requires.0, (checked_walkable _ c.region_in.ensures.checked).count)) (omega arith) (sym parent ∙ w.if-region_in-n.true) (omega arith) (omega arith)
+      | then-region_in-n+else-r-below w ↦ go_on w.best-is (λ _. ⊎_elim (λ p. inl (omega arith)) (λ q. inr (omega arith)) w.else-r-below.either)
+      | else-region_in-n w ↦ go_on w.best-is (λ p. absurd (w.if-region_in-n.false (parent ∙ p)))
     ]
 
 pub returns : goal.returns

@@ -40,7 +40,7 @@ returns-in_err-emit c =
     let m = map_of c.args.map.now in
     let e = c.in_err-emit.ensures in
     let root : c.count-root.result - 1 ≡ m.count - 1 = omega (arith, c.count-root.ensures.count) in
-    let end : c.root_end-end.result.0 ≡ root_size m = c.root_end-end.ensures ∙ ap (λ (r : Region). r.size) c.region-region.ensures.region ∙ ap (λ (n : ℕ). (region m n).size) root in
+    let end : c.root_end-end.result.0 ≡ root_size m = c.root_end-end.ensures ∙ ap (λ (r : Region). r.size) c.region_in-region.ensures.region ∙ ap (λ (n : ℕ). (region m n).size) root in
     let r = err_from_is_err_and c.from_residual.result c.from_residual.ensures.1 in
     rw r.1 (record {
       grew = still_full _ _ _ _ _ (omega (arith, c.render.ensures.within, c.begin.ensures.horizon, end)) refl e.grew;
@@ -54,7 +54,7 @@ returns c =
     let m = map_of c.args.map.now in
     let l = c.loop-at in
     let root : c.count-root.result - 1 ≡ m.count - 1 = omega (arith, c.count-root.ensures.count) in
-    let end : c.root_end-end.result.0 ≡ root_size m = c.root_end-end.ensures ∙ ap (λ (r : Region). r.size) c.region-region.ensures.region ∙ ap (λ (n : ℕ). (region m n).size) root in
+    let end : c.root_end-end.result.0 ≡ root_size m = c.root_end-end.ensures ∙ ap (λ (r : Region). r.size) c.region_in-region.ensures.region ∙ ap (λ (n : ℕ). (region m n).size) root in
     let e : l.at.0 ≡ root_size m = omega (arith, l.invariant.0, c.loop-at-test.false, end) in
     record {
       grew = kept (view_of l.view) l.invariant.1.few _ (l.invariant.2 ∙ ap (flat (backing_of m) (walk_root m)) e);
@@ -65,14 +65,14 @@ returns c =
 pub overflow_sub-root : goal.overflow_sub-root
 overflow_sub-root c = omega (arith, checked_some _ c.count-root.ensures.checked, c.count-root.ensures.count)
 
-pub region-region-requires : goal.region-region-requires
-region-region-requires c = omega (arith, checked_some _ c.count-root.ensures.checked, c.count-root.ensures.count)
+pub region_in-region-requires : goal.region_in-region-requires
+region_in-region-requires c = omega (arith, checked_some _ c.count-root.ensures.checked, c.count-root.ensures.count)
 
 pub begin-requires : goal.begin-requires
 begin-requires c =
     let some = checked_some _ c.count-root.ensures.checked in
     let root : c.count-root.result - 1 < (map_of c.args.map.now).count = omega (arith, some, c.count-root.ensures.count) in
-    (c.loop-at-test.true, omega (arith, c.root_end-end.ensures, ap (λ (r : Region). r.size) c.region-region.ensures.region, (checked_walkable _ c.count-root.ensures.checked).sizes _ root))
+    (c.loop-at-test.true, omega (arith, c.root_end-end.ensures, ap (λ (r : Region). r.size) c.region_in-region.ensures.region, (checked_walkable _ c.count-root.ensures.checked).sizes _ root))
 
 pub render-requires-clause-in_map : goal.render-requires-clause-in_map
 render-requires-clause-in_map c = omega (arith, checked_some _ c.count-root.ensures.checked, c.count-root.ensures.count)

@@ -16,7 +16,7 @@ use Rattle.region_map.proofs.render.+render_render_children.Goals as goal
 pub render-returns-then-at-first : goal.render-returns-then-at-first
 render-returns-then-at-first t c =
     let a = c.args in
-    let x = c.region-region in
+    let x = c.region_in-region in
     nothing_there (map_of a.map.now) a.n x.result x.ensures.region _ a.at.first.0 a.at.offset.0 a.at.end.0 c.requires.span_fits.kept c.if-at-first.true
 
 pub render-returns-then-horizon-first : goal.render-returns-then-horizon-first
@@ -27,16 +27,16 @@ render-returns-then-horizon-first t c =
 pub render-returns-then-has_kind : goal.render-returns-then-has_kind
 render-returns-then-has_kind t c =
     let a = c.args in
-    let x = c.region-region in
+    let x = c.region_in-region in
     let l = c.min in
     let h = some_there x.result.size a.at.first.0 a.at.offset.0 a.at.end.0 c.if-at-first.false in
     through_alias (map_of a.map.now) a.n x.result x.ensures.region a.at.first.0 a.at.offset.0 a.at.end.0 l.result l.ensures h.0 h.1
-    (checked_walkable _ c.region-region.ensures.checked) c.requires.in_map (eqb-true _ _ (sym c.has_kind.ensures ∙ c.if-has_kind.true)) c.render.ensures
+    (checked_walkable _ c.region_in-region.ensures.checked) c.requires.in_map (eqb-true _ _ (sym c.has_kind.ensures ∙ c.if-has_kind.true)) c.render.ensures
 
 pub render-returns-else-has_kind : goal.render-returns-else-has_kind
 render-returns-else-has_kind t c =
     let a = c.args in
-    let x = c.region-region in
+    let x = c.region_in-region in
     let l = c.min in
     let h = some_there x.result.size a.at.first.0 a.at.offset.0 a.at.end.0 c.if-at-first.false in
     through_children (map_of a.map.now) a.n x.result x.ensures.region a.at.first.0 a.at.offset.0 a.at.end.0 l.result l.ensures h.0 h.1
@@ -46,14 +46,14 @@ pub render_children-returns-then-not-has_kind :
     goal.render_children-returns-then-not-has_kind
 render_children-returns-then-not-has_kind t c =
     let a = c.args in
-    let x = c.region in
+    let x = c.region_in in
     the_node (map_of a.map.now) a.n a.below a.at.first.0 a.at.offset.0 a.at.end.0 c.in_default.ensures x.result x.ensures.region (eqb-false _ _ (sym c.has_kind.ensures ∙ c.if-not-has_kind.true)) c.fill.ensures
 
 pub render_children-returns-else-not-has_kind :
     goal.render_children-returns-else-not-has_kind
 render_children-returns-else-not-has_kind t c =
     let a = c.args in
-    let x = c.region in
+    let x = c.region_in in
     no_node (map_of a.map.now) a.n a.below a.at.first.0 a.at.offset.0 a.at.end.0 c.in_default.ensures _ x.result x.ensures.region c.requires.span_fits.0.kept (eqb-true _ _ (sym c.has_kind.ensures ∙ c.if-not-has_kind.false))
 
 pub render_children-render-requires : goal.render_children-render-requires
@@ -77,7 +77,7 @@ pub render_children-render_children-requires : goal.render_children-render_child
 render_children-render_children-requires t c =
     let a = c.args in
     let m = map_of a.map.now in
-    let x = c.region-child in
+    let x = c.region_in-child in
     let next = c.in-Some.ensures in
     let k = is_child next in
     -- after the next child, whichever way: what it answers stands behind the table
@@ -93,7 +93,7 @@ pub render_children-returns : goal.render_children-returns
 render_children-returns t c =
     let a = c.args in
     let m = map_of a.map.now in
-    let x = c.region-child in
+    let x = c.region_in-child in
     let k = is_child c.in-Some.ensures in
     let b : Behind a.table.now (in_span (answer_in m a.n c.in-Some.next) a.at.first.0 a.at.offset.0 a.at.end.0) c.if-begins-at.table = elim c.if-begins-at.branch [
       | render_children-then-begins-at w ↦ behind_at w.table-is (child_begun m a.n _ x.result x.ensures.region a.at.first.0 a.at.offset.0 a.at.end.0 k w.if-begins-at.true w.render.ensures)
@@ -104,28 +104,28 @@ render_children-returns t c =
 
 pub render-overflow_add-offset : goal.render-overflow_add-offset
 render-overflow_add-offset t c =
-    let f = region_facts (map_of c.args.map.now) c.args.n _ c.region-region.ensures.region (checked_walkable _ c.region-region.ensures.checked) c.requires.in_map in
+    let f = region_facts (map_of c.args.map.now) c.args.n _ c.region_in-region.ensures.region (checked_walkable _ c.region_in-region.ensures.checked) c.requires.in_map in
     omega (arith, f.1, c.requires.span_fits.offset)
 
 pub render-render-requires : goal.render-render-requires
 render-render-requires t c =
-    let f = region_facts (map_of c.args.map.now) c.args.n _ c.region-region.ensures.region (checked_walkable _ c.region-region.ensures.checked) c.requires.in_map in
+    let f = region_facts (map_of c.args.map.now) c.args.n _ c.region_in-region.ensures.region (checked_walkable _ c.region_in-region.ensures.checked) c.requires.in_map in
     let lower = f.2 (eqb-true _ _ (sym c.has_kind.ensures ∙ c.if-has_kind.true)) in
     let w = c.requires.span_fits in
-    let h = some_there c.region-region.result.size c.args.at.first.0 c.args.at.offset.0 c.args.at.end.0 c.if-at-first.false in
+    let h = some_there c.region_in-region.result.size c.args.at.first.0 c.args.at.offset.0 c.args.at.end.0 c.if-at-first.false in
     (omega (arith, lower, c.decreases), (omega (arith, lower, c.requires.in_map), record { kept = w.kept; from = w.from; to = omega (arith, w.to, c.min.ensures, h.0); offset = omega (arith, w.offset, f.0, f.1, h.1) }))
 
 pub render-render_children-requires : goal.render-render_children-requires
 render-render_children-requires t c =
-    let f = region_facts (map_of c.args.map.now) c.args.n _ c.region-region.ensures.region (checked_walkable _ c.region-region.ensures.checked) c.requires.in_map in
+    let f = region_facts (map_of c.args.map.now) c.args.n _ c.region_in-region.ensures.region (checked_walkable _ c.region_in-region.ensures.checked) c.requires.in_map in
     let w = c.requires.span_fits in
-    let h = some_there c.region-region.result.size c.args.at.first.0 c.args.at.offset.0 c.args.at.end.0 c.if-at-first.false in
+    let h = some_there c.region_in-region.result.size c.args.at.first.0 c.args.at.offset.0 c.args.at.end.0 c.if-at-first.false in
     (omega (arith, c.decreases), ((c.requires.in_map, omega arith), (record { kept = w.kept; from = w.from; to = omega (arith, w.to, c.min.ensures, h.0); offset = w.offset }, omega (arith, c.min.ensures), omega (arith, f.0, h.1))))
 
 pub render_children-fill-requires : goal.render_children-fill-requires
-render_children-fill-requires t c = (c.requires.span_fits.0, omega (arith, c.requires.in_map.0, (checked_walkable _ c.region.ensures.checked).count))
+render_children-fill-requires t c = (c.requires.span_fits.0, omega (arith, c.requires.in_map.0, (checked_walkable _ c.region_in.ensures.checked).count))
 
-pub render_children-region-child-requires : goal.render_children-region-child-requires
-render_children-region-child-requires t c =
+pub render_children-region_in-child-requires : goal.render_children-region_in-child-requires
+render_children-region_in-child-requires t c =
     let k = child_below (map_of c.args.map.now) c.args.n _ (is_child c.in-Some.ensures) in
     omega (arith, k, c.requires.in_map.0)

@@ -13,12 +13,15 @@ use Rattle.routing.proofs.route.routes_judged.Goals as goal
 pub loop-i-init : goal.loop-i-init
 loop-i-init c = record {
   rest = answers_start (one c.args.guest.now.view c.args.guest.now.blocks.size c.args.guest.now.blocks.plugged.now) c.args.accesses.now c.args.answers.now (length c.as_chunks.result.0.now)
-      (omega (arith, fit_length c.args.accesses.now c.args.answers.now c.requires, c.as_chunks.ensures.front_len));
+      (omega (arith, fit_length c.args.accesses.now c.args.answers.now c.requires.answers_value, c.as_chunks.ensures.front_len));
   size = refl;
 }
 
+pub route_at-answer-requires : goal.route_at-answer-requires
+route_at-answer-requires c = record { le_block = c.requires.le_block; spot = c.near-at.ensures.spot }
+
 pub put_answer-requires : goal.put_answer-requires
-put_answer-requires c = omega (arith, c.loop-i-test.true, c.loop-i.auto.answers, fit_length c.args.accesses.now c.args.answers.now c.requires, c.as_chunks.ensures.front_len)
+put_answer-requires c = omega (arith, c.loop-i-test.true, c.loop-i.auto.answers, fit_length c.args.accesses.now c.args.answers.now c.requires.answers_value, c.as_chunks.ensures.front_len)
 
 pub loop-i-preserved : goal.loop-i-preserved
 loop-i-preserved c =

@@ -33,7 +33,7 @@ placed {seen} {view} {places} e q p = subst (λ (w : List ℕ). places ≡ used_
 pub invariant_of-blocks : goal.invariant_of-blocks
 invariant_of-blocks c = let w = c.args.device.now in
     record {
-      large = omega (arith, c.block_size.ensures, (device_valid (device_of w) c.requires.valid).least);
+      positive = omega (arith, c.block_size.ensures, (device_valid (device_of w) c.requires.valid).least);
       table = ap length c.plugged.ensures ∙ (tables w c.told-device).0;
     }
 

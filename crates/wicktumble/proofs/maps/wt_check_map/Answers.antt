@@ -7,7 +7,7 @@ use Rattle.map_records.specs.Words.{map_of}
 use Rattle.map_check.specs.Check.{fault_reply, judged}
 use Rattle.wicktumble.specs.Result.{reply_report}
 use Rattle.wicktumble.specs.Maps.{check_call}
-use Rattle.wicktumble.proofs.CallLaws.{told_as, reply_told, reply_mapped}
+use Rattle.wicktumble.proofs.CallLaws.{told_as, reply_told}
 use Rattle.wicktumble.proofs.maps.wt_check_map.Goals as goal
 
 pub returns-in_default : goal.returns-in_default
@@ -23,5 +23,5 @@ unfolding check_call
 returns c =
     rw (eq-eqb _ _ c.in-Some.ensures.cases.long, eq-eqb _ _ c.in-Some-as_mut_array.ensures.cases.long)
     (told_as c.tell.ensures
-    (reply_told fault_reply c.map.result
-    ∙ ap reply_report (reply_mapped _ fault_reply _ _ c.map.ensures.cases ∙ c.check_map.ensures.reply ∙ ap (λ (w : List ℕ). judged (map_of w) c.args.memory_length) c.in-Some.ensures.cases.same)))
+    (reply_told fault_reply c.check_map.result
+    ∙ ap reply_report (c.check_map.ensures.reply ∙ ap (λ (w : List ℕ). judged (map_of w) c.args.memory_length) c.in-Some.ensures.cases.same)))

@@ -12,15 +12,15 @@ returns c =
     let w = c.args.self.now in
     let u = c.if-self-eq-PIECES.self in
     let p = c.args.piece in
-    let ys = c.rotate_right.new.self in
-    let turned = c.rotate_right.ensures in
+    let ys = c.put_first.new.row in
+    let put = c.put_first.ensures in
     let t = c.requires.pieces in
     let f = c.requires.fits in
     elim c.if-self-eq-PIECES.branch [
       | then-self-eq-PIECES x ↦
           let full = x.if-self-eq-PIECES.true in
           let count = ap (λ (t : PieceTable). t.count) x.self-is ∙ full in
-          insert_full w c.args.i p _ t f (placed w u c.args.i 255 (piece_first w 255) p ys t.size (ap (λ (t : PieceTable). t.pieces) x.self-is) (ap (λ (t : PieceTable). t.start) x.self-is) count (ap (λ (t : PieceTable). t.horizon.0) x.self-is) (omega (arith, f.room)) (omega arith) turned.by_index turned.len) full
+          insert_full w c.args.i p _ t f (placed w u c.args.i 255 (piece_first w 255) p ys t.size (ap (λ (t : PieceTable). t.pieces) x.self-is) (ap (λ (t : PieceTable). t.start) x.self-is) count (ap (λ (t : PieceTable). t.horizon.0) x.self-is) (omega (arith, f.room)) (omega arith) put) full
       | else-self-eq-PIECES x ↦
-          insert_room w c.args.i p _ t f (placed w u c.args.i w.count w.horizon.0 p ys t.size (ap (λ (t : PieceTable). t.pieces) x.self-is) (ap (λ (t : PieceTable). t.start) x.self-is) (ap (λ (t : PieceTable). t.count) x.self-is) (ap (λ (t : PieceTable). t.horizon.0) x.self-is) f.place (omega (arith, t.few, x.if-self-eq-PIECES.false)) turned.by_index turned.len) x.if-self-eq-PIECES.false
+          insert_room w c.args.i p _ t f (placed w u c.args.i w.count w.horizon.0 p ys t.size (ap (λ (t : PieceTable). t.pieces) x.self-is) (ap (λ (t : PieceTable). t.start) x.self-is) (ap (λ (t : PieceTable). t.count) x.self-is) (ap (λ (t : PieceTable). t.horizon.0) x.self-is) f.place (omega (arith, t.few, x.if-self-eq-PIECES.false)) put) x.if-self-eq-PIECES.false
     ]

@@ -1,4 +1,4 @@
--- `map_check::check::check_map` meets its contract. Assumes nothing.
+-- `map_check::check::checked_map` meets its contract. Assumes nothing.
 use mathlib.Core.Path.{◌≡◌, sym, subst, ◌∙◌}
 use mathlib.Core.List.{List}
 use Prim.Native.Nat.{ℕ}
@@ -10,7 +10,7 @@ use Rattle.map_check.specs.Promises.{Counted, on_regions, on_pairs}
 use Rattle.map_check.specs.Check.{fault_reply}
 use Rattle.map_check.specs.declared.check.MapFault.{MapFault}
 use Rattle.map_check.proofs.Found.{judged_count, judged_refused, judged_passed}
-use Rattle.map_check.proofs.check.check_map.Goals as goal
+use Rattle.map_check.proofs.check.checked_map.Goals as goal
 
 -- the parts of the check over the same words, and the check
 module _ (w v : List ℕ) (same : v ≡ w) (known : Counted w) (memory : ℕ) where
