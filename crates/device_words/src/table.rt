@@ -48,7 +48,9 @@ impl BlockRun {
         ensures end { result.end ≡ (self.first.0 + self.count + 63) / 64 }
     {
         let first = usize::from(self.first.0);
-        first / 64..(first + self.count + 63) / 64
+        let at = first / 64;
+        // Counted from word `at` on: the compiler then sees that a run of one block is one word, so that a pin takes no loop.
+        at..at + (first % 64 + self.count + 63) / 64
     }
 
     // Word i of a table, where the run's blocks in it are set or not. Some are.
