@@ -208,7 +208,7 @@ zero_word zero i = refl
 zero_word (suc n) zero = refl
 zero_word (suc n) (suc i) = zero_word n i
 
-no_bit : (k : ℕ) → bit_of 0 k ≡ false
+pub no_bit : (k : ℕ) → bit_of 0 k ≡ false
 no_bit k = ap (λ (x : ℕ). eqb (x % 2) 1) (zero-div (2 ^ k))
 
 pub zero_bit : (b : ℕ) → bit_at (replicate 16 0) b ≡ false

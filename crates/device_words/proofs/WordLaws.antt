@@ -18,7 +18,7 @@ use Rattle.map_check.proofs.Bools.{or_left, or_right}
 use Rattle.std.proofs.lemmas.Nat.Bits.{ones_shr}
 use Rattle.std.specs.Prelude.{min}
 use Rattle.device_words.specs.Table.{IsTable, bit_of, bit_at, word_of, table_of, within, held_in, any_below}
-use Rattle.device_words.proofs.TableLaws.{word_bits, word_lt, word_ext, word_low, word_bit, block, table_ext, held_le, held_all, held_none, zero_word, zero_bit}
+use Rattle.device_words.proofs.TableLaws.{word_bits, word_lt, word_ext, word_low, word_bit, block, table_ext, held_le, held_all, held_none, zero_word, no_bit, zero_bit}
 use Rattle.map_records.proofs.Order.{side, eq_or_not}
 
 word_is : (w : ℕ) (f : ℕ → Bool) → w < 2 ^ 64 → ((k : ℕ) → k < 64 → bit_of w k ≡ f k) → w ≡ word_of f 64
@@ -142,6 +142,27 @@ module _ (low end to before w : ℕ) (p : to ≡ word_of (λ k. ltb k end) 64) (
       word_is (bit_xor (bit_or w run) run) (λ k. cond (leb low k && ltb k end) false (bit_of w k)) (xor_lt 64 (bit_or w run) run set_lt run_lt)
       (λ k r. xor_bit (bit_or w run) run k ∙ ap (λ (x : Bool). cond (bit_of run k) (not x) x) (or_bit w run k)
       ∙ unset_bit (bit_of w k) (bit_of run k) ∙ ap (λ (x : Bool). cond x false (bit_of w k)) (run_bit k r))
+
+-- ---- a word whose bits are all as a run's are to be, turned
+
+one_bit : (k : ℕ) → k < 64 → bit_of 18446744073709551615 k ≡ true
+one_bit k h =
+    ap (λ (w : ℕ). bit_of w k) (below_all 64 (lit< tt)) ∙ word_bit (λ j. ltb j 64) 64 k h ∙ lt-ltb k 64 h
+
+pub full_word : (w : ℕ) (on : Bool) (f : ℕ → Bool) → w ≡ cond on 18446744073709551615 0 → word_of (λ k. cond (f k) on (bit_of w k)) 64 ≡ w
+full_word w on f e = sym (word_is w (λ k. cond (f k) on (bit_of w k)) (fits on e) (λ k h. same k (f k) (bit_is on e k h)))
+  where
+    fits : (x : Bool) → w ≡ cond x 18446744073709551615 0 → w < 2 ^ 64
+    fits true p = omega arith
+    fits false p = omega arith
+
+    bit_is : (x : Bool) → w ≡ cond x 18446744073709551615 0 → (k : ℕ) → k < 64 → bit_of w k ≡ x
+    bit_is true p k h = ap (λ (v : ℕ). bit_of v k) p ∙ one_bit k h
+    bit_is false p k h = ap (λ (v : ℕ). bit_of v k) p ∙ no_bit k
+
+    same : (k : ℕ) (x : Bool) → bit_of w k ≡ on → bit_of w k ≡ cond x on (bit_of w k)
+    same k true p = p
+    same k false p = refl
 
 -- ---- every block of a run set, or none
 

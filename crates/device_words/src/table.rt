@@ -65,6 +65,16 @@ impl BlockRun {
             on,
         )
     }
+
+    // Does turning its blocks in word i change no bit? Where every bit of the word is so already, none can change: such a
+    // word passes before the run's ends in it are worked out.
+    fn stays(self, i: usize, word: u64, on: bool) -> bool
+        requires { (self.first.0 / 64 ≤ i) × (i * 64 < self.first.0 + self.count) }
+        ensures { result ≡ eqb (word_of (λ k. cond (within self.first.0 self.count (i * 64 + k)) on (bit_of word k)) 64) word }
+    {
+        let full = if on { u64::MAX } else { 0 };
+        word == full || self.turned(i, word, on) == word
+    }
 }
 
 // The blocks of a run are set or not, where they lie.
@@ -90,7 +100,7 @@ pub fn clear(words: &mut [u64])
 fn run_is(words: &TableWords, run: BlockRun, on: bool) -> bool
     ensures { result ≡ eqb (held_in words.now run.first.0 run.count) (cond on run.count 0) }
 {
-    run.words().all(|i| run.turned(i, words[i], on) == words[i])
+    run.words().all(|i| run.stays(i, words[i], on))
 }
 
 // Is none of the blocks of a run set?

@@ -49,8 +49,11 @@ pub fn can_turn(device: &DeviceWords, b: BlockNumber, on: bool) -> bool
     ensures value { result ≡ not (turn_fault (device_at device.now) b.0 on) }
     ensures room { result ≡ true → b.0 < most_blocks }
 {
+    if !on {
+        return is_pinned(device, b);
+    }
     let blocks = blocks_in(device, device[REGION_SIZE]);
-    usize::from(b.0) < blocks && is_plugged(device, b) && is_pinned(device, b) != on
+    usize::from(b.0) < blocks && is_plugged(device, b) && !is_pinned(device, b)
 }
 
 // The configuration's bytes.

@@ -4,7 +4,6 @@ use Rattle.device_words.specs.Device.{is_pinned, tables_ok}
 use Rattle.device_words.specs.Table.{bit_at}
 use Rattle.device_words.specs.Words.{device_at}
 use Rattle.device_words.proofs.RuleLaws.{blocks_bound, blocks_mono, tables_two, Ruled, setup_ruled}
-use Rattle.device_words.proofs.DeviceWords.{plugged_length}
 use Rattle.device_words.proofs.rules.tables_ok.Goals as goal
 
 pub blocks_in-blocks-requires : goal.blocks_in-blocks-requires
