@@ -56,7 +56,8 @@ impl View<'_> {
     fn fill_apart<T: Copy, F: Fn(usize) -> T>(&self, addr: GuestAddress, out: &mut [T], make: F)
         requires in_memory { InMemory (view_of self.now) addr.0 (length out.old) }
         requires callable { (i : ℕ) → i < length out.old → F.pre make (place_in (view_of self.now) (addr.0 + i)) }
-        ensures { (g : ℕ → T) → Makes F.pre F.post make g → out.new ≡ map (λ a. g (place_in (view_of self.now) a)) (addresses addr.0 (length out.old)) }
+        ensures { (g : ℕ → T) → Makes F.pre F.post make g
+            → out.new ≡ map (λ a. g (place_in (view_of self.now) a)) (addresses addr.0 (length out.old)) }
     {
         // That no address of the memory wraps is known of the view's words.
         let _ = &self.words;
@@ -76,7 +77,8 @@ impl View<'_> {
     )
         requires in_memory { InMemory (view_of self.now) addr.0 (length out.old) }
         requires callable { (i : ℕ) → i < length out.old → F.pre make (place_in (view_of self.now) (addr.0 + i)) }
-        ensures { (g : ℕ → T) → Makes F.pre F.post make g → out.new ≡ map (λ a. g (place_in (view_of self.now) a)) (addresses addr.0 (length out.old)) }
+        ensures { (g : ℕ → T) → Makes F.pre F.post make g
+            → out.new ≡ map (λ a. g (place_in (view_of self.now) a)) (addresses addr.0 (length out.old)) }
     {
         // That no address of the memory wraps is known of the view's words.
         let _ = &self.words;
