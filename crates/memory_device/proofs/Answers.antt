@@ -10,11 +10,12 @@ use Rattle.map_check.specs.declared.answer.RecordFault.{RecordFault}
 use Rattle.map_check.specs.declared.check.MapFault.{MapFault}
 use Rattle.map_check.proofs.Answers.{injective, answer_of, reply_back, fault_form}
 use Rattle.map_check.proofs.Bools.{never}
-use Rattle.device_words.specs.Device.{MemoryDevice, no_device}
+use Rattle.device_words.specs.Device.{MemoryDevice}
 use Rattle.device_words.specs.declared.block.BlockNumber.{BlockNumber}
 use Rattle.device_words.specs.Request as carry
 use Rattle.memory_device.specs.Record as host
 use Rattle.memory_device.specs.Record.{host_fault_reply, host_reply, record_fault_reply, record_reply, record_of, outcome_by}
+use Rattle.memory_device.specs.Refused.{value_reply, value_given}
 use Rattle.memory_device.specs.Request as request-of
 use Rattle.memory_device.specs.Host as byte
 use Rattle.memory_device.specs.SetUp.{set_up_fault_reply, set_up_reply}
@@ -22,21 +23,22 @@ use Rattle.memory_device.specs.SetUp as set-up-of
 use Rattle.memory_device.specs.declared.device.HostFault.{HostFault}
 use Rattle.memory_device.specs.declared.device.HostFault.TheVariants.{Size, Pin, Record}
 use Rattle.memory_device.specs.declared.device.MemoryDevice as value
+use Rattle.memory_device.specs.declared.refused.Refused.{Refused}
 use Rattle.memory_device.specs.declared.request.Carried.{Carried}
 use Rattle.memory_device.specs.declared.setup.SetUpFault.{SetUpFault}
 use Rattle.memory_device.specs.declared.setup.SetUpFault.TheVariants.{Map, Values}
 
 -- the answer of a reply: the value x, or the fault that f reads
-abbrev answer_by : {A E : Type 0} → (Reply → E) → A → Reply → Result A E
+abbrev pub answer_by : {A E : Type 0} → (Reply → E) → A → Reply → Result A E
 answer_by f x accepted = Ok x
 answer_by f x (nodes k i j) = Err (f (nodes k i j))
 answer_by f x (place k p) = Err (f (place k p))
 answer_by f x (plain k) = Err (f (plain k))
 
 -- a fault has a number above 0, by which it is read back
-record Read {E : Type 0} (reply : E → Reply) (f : Reply → E) : Type 0 where
-  refuses : (e : E) → passes (reply e) ≡ false
-  back : (e : E) → f (reply e) ≡ e
+pub record Read {E : Type 0} (reply : E → Reply) (f : Reply → E) : Type 0 where
+  pub refuses : (e : E) → passes (reply e) ≡ false
+  pub back : (e : E) → f (reply e) ≡ e
 
 fault_back : {A E : Type 0} (reply : E → Reply) (f : Reply → E) → Read reply f → (x : A) (e : E) → answer_by f x (reply e) ≡ Err e
 fault_back reply f r x e = go (reply e) (r.refuses e) ∙ ap Err (r.back e)
@@ -137,48 +139,60 @@ value_back d = refl
 pub record_injective : (a b : value.MemoryDevice) → record_of a ≡ record_of b → a ≡ b
 record_injective = injective record_of value_of value_back
 
--- the next state, or a fault
-module _ {E : Type 0} (reply : E → Reply) (f : Reply → E) (r : Read reply f) (d : MemoryDevice) where
-  outcome_answer : host.HostOutcome → Result value.MemoryDevice E
-  outcome_answer o = answer_by f (value_of o.device) o.reply
+-- ---- with a value, in a refusal too
+-- the answer of a reply and a value: the value, or the fault that f reads with it
+abbrev pub answer_given : {E V : Type 0} → (Reply → E) → V → Reply → Result V (Refused E V)
+answer_given f v = answer_by (λ r. record { fault = f r; left = v }) v
 
-  outcome_back : (a : Result value.MemoryDevice E) → outcome_answer (outcome_by reply d a) ≡ a
+pub given_back : {E V : Type 0} (reply : E → Reply) (f : Reply → E) → Read reply f → (a : Result V (Refused E V)) → answer_given f (value_given a) (value_reply reply a) ≡ a
+given_back reply f r (Ok v) = refl
+given_back reply f r (Err e) = go (reply e.fault) (r.refuses e.fault) ∙ ap (λ x. Err (record { fault = x; left = e.left })) (r.back e.fault)
+  where
+    go : (q : Reply) → passes q ≡ false → answer_given f e.left q ≡ Err (record { fault = f q; left = e.left })
+    go accepted p = absurd (never p)
+    go (nodes k i j) p = refl
+    go (place k q) p = refl
+    go (plain k) p = refl
+
+-- the next state
+module _ {E : Type 0} (reply : E → Reply) (f : Reply → E) (r : Read reply f) where
+  outcome_answer : host.HostOutcome → Result value.MemoryDevice (Refused E value.MemoryDevice)
+  outcome_answer o = answer_given f (value_of o.device) o.reply
+
+  outcome_back : (a : Result value.MemoryDevice (Refused E value.MemoryDevice)) → outcome_answer (outcome_by reply a) ≡ a
   unfolding outcome_answer value_of
-  outcome_back (Ok next) = refl
-  outcome_back (Err e) = fault_back reply f r (value_of d) e
+  outcome_back = given_back reply f r
 
-  outcome_injective : (a b : Result value.MemoryDevice E) → outcome_by reply d a ≡ outcome_by reply d b → a ≡ b
-  outcome_injective = injective (outcome_by reply d) outcome_answer outcome_back
+  outcome_injective : (a b : Result value.MemoryDevice (Refused E value.MemoryDevice)) → outcome_by reply a ≡ outcome_by reply b → a ≡ b
+  outcome_injective = injective (outcome_by reply) outcome_answer outcome_back
 
-pub changed_injective : (d : MemoryDevice) (a b : Result value.MemoryDevice HostFault) → host.host_outcome_of d a ≡ host.host_outcome_of d b → a ≡ b
+pub changed_injective : (a b : Result value.MemoryDevice (Refused HostFault value.MemoryDevice)) → host.host_outcome_of a ≡ host.host_outcome_of b → a ≡ b
 changed_injective = outcome_injective host_fault_reply host_fault_of host_read
 
-pub reset_injective : (d : MemoryDevice) (a b : Result value.MemoryDevice RecordFault) → host.record_outcome_of d a ≡ host.record_outcome_of d b → a ≡ b
+pub reset_injective : (a b : Result value.MemoryDevice (Refused RecordFault value.MemoryDevice)) → host.record_outcome_of a ≡ host.record_outcome_of b → a ≡ b
 reset_injective = outcome_injective record_fault_reply (λ _. record {}) record_read
 
-pub set_up_injective : (a b : Result value.MemoryDevice SetUpFault) → set-up-of.set_up_outcome_of a ≡ set-up-of.set_up_outcome_of b → a ≡ b
-set_up_injective = outcome_injective set_up_fault_reply set_up_fault_of set_up_read no_device
+pub set_up_injective : (a b : Result value.MemoryDevice (Refused SetUpFault value.MemoryDevice)) → set-up-of.set_up_outcome_of a ≡ set-up-of.set_up_outcome_of b → a ≡ b
+set_up_injective = outcome_injective set_up_fault_reply set_up_fault_of set_up_read
 
 -- the response too
-carried_of : carry.RequestOutcome → Result Carried RecordFault
-carried_of o = answer_by (λ _. record {}) (record { response = o.response; device = value_of o.device }) o.reply
+carried_of : carry.RequestOutcome → Result Carried (Refused RecordFault Carried)
+carried_of o = answer_given (λ _. record {}) (record { response = o.response; device = value_of o.device }) o.reply
 
-carried_back : (d : MemoryDevice) (c : Result Carried RecordFault) → carried_of (request-of.request_outcome_of d c) ≡ c
+carried_back : (a : Result Carried (Refused RecordFault Carried)) → carried_of (request-of.request_outcome_of a) ≡ a
 unfolding carried_of value_of
-carried_back d (Ok c) = refl
-carried_back d (Err e) = refl
+carried_back = given_back record_fault_reply (λ _. record {}) record_read
 
-pub carried_injective : (d : MemoryDevice) (a b : Result Carried RecordFault) → request-of.request_outcome_of d a ≡ request-of.request_outcome_of d b → a ≡ b
-carried_injective d = injective (request-of.request_outcome_of d) carried_of (carried_back d)
+pub carried_injective : (a b : Result Carried (Refused RecordFault Carried)) → request-of.request_outcome_of a ≡ request-of.request_outcome_of b → a ≡ b
+carried_injective = injective request-of.request_outcome_of carried_of carried_back
 
 -- the configuration's bytes
-configuration_of : byte.ConfigurationRead → Result (List ℕ) RecordFault
-configuration_of r = answer_by (λ _. record {}) r.bytes r.reply
+configuration_of : byte.ConfigurationRead → Result (List ℕ) (Refused RecordFault (List ℕ))
+configuration_of r = answer_given (λ _. record {}) r.bytes r.reply
 
-configuration_back : (c : Result (List ℕ) RecordFault) → configuration_of (byte.read_of c) ≡ c
+configuration_back : (a : Result (List ℕ) (Refused RecordFault (List ℕ))) → configuration_of (byte.read_of a) ≡ a
 unfolding configuration_of
-configuration_back (Ok bytes) = refl
-configuration_back (Err e) = refl
+configuration_back = given_back record_fault_reply (λ _. record {}) record_read
 
-pub configuration_injective : (a b : Result (List ℕ) RecordFault) → byte.read_of a ≡ byte.read_of b → a ≡ b
+pub configuration_injective : (a b : Result (List ℕ) (Refused RecordFault (List ℕ))) → byte.read_of a ≡ byte.read_of b → a ≡ b
 configuration_injective = injective byte.read_of configuration_of configuration_back

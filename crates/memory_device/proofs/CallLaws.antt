@@ -9,8 +9,8 @@ use native.Mathlib.Decide.{dec_le}
 use lib.Dec.{eqb, ltb}
 use lib.ListN.{length, set}
 use borrow.Author.Tests.{le-ltb, lt-ltb, eq-eqb, ne_eqb, eqb-true, eqb-false}
-use Rattle.std.specs.Result.{IsErr, IsErrAnd}
-use Rattle.std.specs.Prelude.{Result, Ok, Err, Option, replicate}
+use Rattle.std.specs.Result.{IsErr, IsErrAnd, MatchResult}
+use Rattle.std.specs.Prelude.{Result, Ok, Err, Option}
 use Rattle.map_check.specs.Reply.{Reply, accepted, plain, passes, reply_by}
 use Rattle.map_check.specs.declared.answer.RecordFault.{RecordFault}
 use Rattle.map_check.proofs.Bools.{and_off, never}
@@ -25,13 +25,14 @@ use Rattle.device_words.proofs.TableLaws.{table_length_lem, past_bit}
 use Rattle.device_words.proofs.AnswerLaws.{table_whole}
 use Rattle.device_words.proofs.DeviceWords.{device_at_lem, device_none, halves, record_back, plugged_length, pins_length, ok_length, device_first}
 use Rattle.device_words.proofs.RuleLaws.{device_valid, blocks_bound, blocks_mono}
-use Rattle.memory_device.specs.Record.{HostOutcome, host_fault_reply, host_reply, record_reply, outcome_by}
+use Rattle.memory_device.specs.Record.{record_of, HostOutcome, host_fault_reply, host_reply, record_reply, outcome_by}
 use Rattle.memory_device.specs.Host.{host_refusal, done, if_ok, pin_fault, turn_fault, with_requested, configuration_of, ConfigurationRead, configured_into, read_of, byte_block, byte_of}
 use Rattle.memory_device.specs.Request.{carried_into, request_outcome_of}
 use Rattle.memory_device.specs.Leaves.{words_left, LeavesDevice, ReadsConfiguration, Carries, ByValue}
 use Rattle.memory_device.specs.declared.device.HostFault.{HostFault}
 use Rattle.memory_device.specs.declared.device.HostFault.TheVariants.{Size, Pin, Record}
 use Rattle.memory_device.specs.declared.device.MemoryDevice as value
+use Rattle.memory_device.specs.declared.refused.Refused.{Refused}
 use Rattle.memory_device.specs.declared.request.Carried as value-carried
 use Rattle.device_words.specs.declared.block.BlockNumber.{BlockNumber}
 
@@ -168,25 +169,34 @@ module _ {E : Type 0} (reply : E → Reply) (refuses : (e : E) → passes (reply
       f
 
   pub by_value : (w : List ℕ) → w ≡ device_words d → (answer : Result Unit E) (w' : List ℕ) → LeavesDevice (o (device_of w)) w (reply_by reply answer) w'
-      → (r : Result value.MemoryDevice E) → ByValue answer w' r → outcome_by reply d r ≡ o d
+      → (r : Result value.MemoryDevice (Refused E value.MemoryDevice)) → ByValue d answer w' r → outcome_by reply r ≡ o d
   by_value w s answer w' l r g =
       let e : device_of w ≡ d = ap device_of s ∙ record_back d h.plugged h.pins in
       let h : LeavesDevice (o d) w (reply_by reply answer) w' = rw e at l in
       go answer r g h.reply (read_back d (o d).reply (o d).device w w' e h.words f)
     where
-      go : (a : Result Unit E) (r : Result value.MemoryDevice E) → ByValue a w' r → reply_by reply a ≡ (o d).reply → device_of w' ≡ (o d).device → outcome_by reply d r ≡ o d
+      go : (a : Result Unit E) (r : Result value.MemoryDevice (Refused E value.MemoryDevice)) → ByValue d a w' r → reply_by reply a ≡ (o d).reply → device_of w' ≡ (o d).device
+          → outcome_by reply r ≡ o d
       go (Ok _) (Ok next) g p q = λ i. record { reply = p i; device = (g ∙ q) i }
       go (Ok _) (Err x) g p q = absurd g
       go (Err y) (Ok next) g p q = absurd g
       go (Err y) (Err x) g p q =
-          let s : reply x ≡ (o d).reply = ap reply g ∙ p in
-          let t : d ≡ (o d).device = sym (refused_state x s) in
+          let s : reply x.fault ≡ (o d).reply = ap reply g.0 ∙ p in
+          let t : record_of x.left ≡ (o d).device = g.1 ∙ sym (refused_state x.fault s) in
           λ i. record { reply = s i; device = t i }
 
--- what `?` passes on is the call's refusal
-pub refusal_by_value : {E : Type 0} (r : Result value.MemoryDevice E) (x : E) (w : List ℕ) → IsErr r → IsErrAnd r (λ e. e ≡ x) → ByValue (Err x) w r
-refusal_by_value (Ok _) x w h p = absurd (never (sym h))
-refusal_by_value (Err e) x w h p = p
+-- what `?` passes on of a call with the answer a is its fault, with the record that was passed; else the record is what the words are then
+pub refusal_by_value : {E : Type 0} (a : Result Unit E) (v : value.MemoryDevice) (w : List ℕ) (q : Refused E value.MemoryDevice) (r : Result value.MemoryDevice (Refused E value.MemoryDevice))
+    → MatchResult a (λ x. ⊥) (λ e. q ≡ record { fault = e; left = v }) → IsErrAnd r (λ e. e ≡ q) → ByValue (record_of v) a w r
+refusal_by_value (Ok _) v w q r m p = absurd m
+refusal_by_value (Err e) v w q (Ok _) m p = absurd p
+refusal_by_value (Err e) v w q (Err s) m p = let h = p ∙ m in
+    (λ i. (h i).fault, λ i. record_of (h i).left)
+
+pub change_by_value : {E : Type 0} (a : Result Unit E) (d : MemoryDevice) (w : List ℕ) (next : value.MemoryDevice) → MatchResult a (λ x. Unit) (λ e. ⊥) → record_of next ≡ device_of w
+    → ByValue d a w (Ok next)
+change_by_value (Ok _) d w next m p = p
+change_by_value (Err e) d w next m p = absurd m
 
 pub host_refuses : (e : HostFault) → passes (host_fault_reply e) ≡ false
 host_refuses Size = refl
@@ -296,10 +306,11 @@ byte_27 w o e (Ok _) h = absurd (never (sym h))
 byte_27 w o e (Err _) h = rw (sym e)
 
 -- ---- what a method by value passes on
-pub configuration_27 : (d : MemoryDevice) (r : Result (List ℕ) RecordFault) → IsErr r → read_of r ≡ record { reply = plain 27; bytes = replicate 56 0 }
-configuration_27 d (Ok _) h = absurd (never (sym h))
-configuration_27 d (Err _) h = refl
+pub configuration_27 : (r : Result (List ℕ) (Refused RecordFault (List ℕ))) (bytes : List ℕ) → IsErrAnd r (λ e. e.left ≡ bytes) → read_of r ≡ record { reply = plain 27; bytes = bytes }
+configuration_27 (Ok _) bytes h = absurd h
+configuration_27 (Err e) bytes h = λ i. record { reply = plain 27; bytes = h i }
 
-pub request_27 : (d : MemoryDevice) (r : Result value-carried.Carried RecordFault) → IsErr r → request_outcome_of d r ≡ record { reply = plain 27; response = replicate 10 0; device = d }
-request_27 d (Ok _) h = absurd (never (sym h))
-request_27 d (Err _) h = refl
+pub request_27 : (r : Result value-carried.Carried (Refused RecordFault value-carried.Carried)) (v : value-carried.Carried) → IsErrAnd r (λ e. e.left ≡ v)
+    → request_outcome_of r ≡ record { reply = plain 27; response = v.response; device = record_of v.device }
+request_27 (Ok _) v h = absurd h
+request_27 (Err e) v h = λ i. record { reply = plain 27; response = (h i).response; device = record_of (h i).device }

@@ -1,21 +1,23 @@
 -- Laws of setting the device up. Assumes nothing.
-use mathlib.Core.Path.{◌≡◌, refl, ap, ◌∙◌}
+use mathlib.Core.Path.{◌≡◌, refl, ◌∙◌}
 use mathlib.Core.Bool.{true, false}
 use Prim.Native.Nat.{ℕ, ◌+◌}
 use native.Mathlib.Numerals.{add-one}
 use borrow.Author.Tests.{eq-eqb, ne_eqb}
 use Rattle.map_records.specs.Map.{managed, region}
 use Rattle.map_check.specs.Reply.{accepted, plain, passes}
-use Rattle.map_check.specs.Check.{fault_reply, judged, Accepted}
+use Rattle.map_check.specs.Check.{fault_reply, reply, judged, Accepted}
 use Rattle.map_check.specs.declared.check.MapFault.{MapFault}
 use Rattle.map_check.proofs.Answers.{fault_form}
 use Rattle.std.specs.Prelude.{Result, Ok, Err}
-use Rattle.std.specs.Result.{IsErrAnd}
+use Rattle.std.specs.Result.{IsErrAnd, MatchResult}
 use Rattle.map_records.specs.declared.map.RegionMap.{RegionMap}
 use Rattle.map_check.proofs.Replies.{refused_first}
-use Rattle.device_words.specs.Device.{setup_ok}
+use Rattle.device_words.specs.Device.{no_device, setup_ok}
+use Rattle.memory_device.specs.Record.{record_of}
 use Rattle.memory_device.specs.SetUp.{managed_in, region_size, fresh_device, set_up_refusal, set_up_fault_reply, valued, set_up, set_up_outcome_of}
 use Rattle.memory_device.specs.declared.device.MemoryDevice as value
+use Rattle.memory_device.specs.declared.refused.Refused.{Refused}
 use Rattle.memory_device.specs.declared.setup.SetUpFault.{SetUpFault}
 use Rattle.memory_device.specs.declared.setup.SetUpFault.TheVariants.{Map}
 use Rattle.memory_device.specs.declared.setup.DeviceValues.{DeviceValues}
@@ -39,10 +41,12 @@ module _ (m : RegionMap) (length : ℕ) (v : DeviceValues) where
   unfolding set_up Accepted
   set_up_values ok h = rw (ok, h)
 
-  -- what `?` passes on is the check's refusal
-  pub set_up_fault : (r : Result value.MemoryDevice SetUpFault) (e : MapFault) → IsErrAnd r (λ f. f ≡ Map e) → fault_reply e ≡ judged m length → set_up_outcome_of r ≡ set_up m length v
+  -- what `?` passes on is the check's refusal, with the record of zeros
+  pub set_up_fault : {A : Type 0} (a : Result A MapFault) (r : Result value.MemoryDevice (Refused SetUpFault value.MemoryDevice))
+      → MatchResult a (λ x. ⊥) (λ e. IsErrAnd r (λ f. (f.fault ≡ Map e) × (record_of f.left ≡ no_device))) → reply a ≡ judged m length → set_up_outcome_of r ≡ set_up m length v
   unfolding set_up
-  set_up_fault (Ok _) e h p = absurd h
-  set_up_fault (Err f) e h p =
-      ap (λ (x : SetUpFault). set_up_refusal (set_up_fault_reply x)) h
+  set_up_fault (Ok _) r h p = absurd h
+  set_up_fault (Err e) (Ok _) h p = absurd h
+  set_up_fault (Err e) (Err f) h p =
+      (λ i. record { reply = set_up_fault_reply (h.0 i); device = h.1 i })
       ∙ refused_first set_up_refusal (valued v (region_size m)) (fault_reply e) (judged m length) p (fault_form (λ r. passes r ≡ false) (λ k i j. refl) e)

@@ -5,6 +5,8 @@ use Rattle.device_words.specs.Bytes.{configuration_bytes, configuration_length}
 use Rattle.device_words.specs.Table.{bit_at}
 use Rattle.device_words.specs.Device.{MemoryDevice, is_pinned, with_pins, with_pin, fresh, plugged_size, block_of_byte, device_ok}
 use Rattle.memory_device.specs.Record.{HostOutcome, record_fault_reply}
+use Rattle.memory_device.specs.Refused.{value_reply, value_given}
+use Rattle.memory_device.specs.declared.refused.Refused.{Refused}
 use Rattle.map_records.specs.Refusal as refusal
 use Rattle.map_check.specs.declared.answer.RecordFault.{RecordFault}
 use Rattle.device_words.specs.declared.block.BlockNumber.{BlockNumber}
@@ -80,9 +82,8 @@ configured_into d bytes =
 abbrev pub configured : MemoryDevice → ConfigurationRead
 configured d = configured_into d (replicate configuration_length 0)
 
-abbrev pub read_of : Result (List ℕ) RecordFault → ConfigurationRead
-read_of (Ok bytes) = record { reply = accepted; bytes = bytes }
-read_of (Err e) = record { reply = record_fault_reply e; bytes = replicate configuration_length 0 }
+abbrev pub read_of : Result (List ℕ) (Refused RecordFault (List ℕ)) → ConfigurationRead
+read_of a = record { reply = value_reply record_fault_reply a; bytes = value_given a }
 
 -- the block of a byte of the region, or that the byte lies outside it, or 27
 pub data ByteIn : Type 0 where

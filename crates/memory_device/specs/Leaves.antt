@@ -6,6 +6,7 @@ use Rattle.device_words.specs.Words.{device_of, device_words}
 use Rattle.device_words.specs.Request as request
 use Rattle.memory_device.specs.Record.{HostOutcome, record_of}
 use Rattle.memory_device.specs.declared.device.MemoryDevice as value
+use Rattle.memory_device.specs.declared.refused.Refused.{Refused}
 use Rattle.memory_device.specs.Host.{ConfigurationRead}
 
 -- the words of the next state, or on a refusal those that were given
@@ -25,16 +26,16 @@ Carries o w r x w' = (r ≡ o.reply) × (x ≡ o.response) × (w' ≡ words_left
 abbrev pub ReadsConfiguration : ConfigurationRead → Reply → List ℕ → Type 0
 ReadsConfiguration o r x = (r ≡ o.reply) × (x ≡ o.bytes)
 
--- what a call on a record's words answers and leaves in them, by value: the record that they then are, or its refusal
-abbrev pub ByValue : {E : Type 0} → Result Unit E → List ℕ → Result value.MemoryDevice E → Type 0
-ByValue (Ok _) w (Ok next) = record_of next ≡ device_of w
-ByValue (Ok _) w (Err e) = ⊥
-ByValue (Err f) w (Ok next) = ⊥
-ByValue (Err f) w (Err e) = e ≡ f
+-- what a call on the words of the record d answers and leaves in them, by value: the record that they then are, or its fault and d
+abbrev pub ByValue : {E : Type 0} → MemoryDevice → Result Unit E → List ℕ → Result value.MemoryDevice (Refused E value.MemoryDevice) → Type 0
+ByValue d (Ok _) w (Ok next) = record_of next ≡ device_of w
+ByValue d (Ok _) w (Err r) = ⊥
+ByValue d (Err f) w (Ok next) = ⊥
+ByValue d (Err f) w (Err r) = (r.fault ≡ f) × (record_of r.left ≡ d)
 
--- a record by value, changed by a call on its words, of which `left` says what it may answer and leave
-pub record Changes {E : Type 0} (left : Result Unit E → List ℕ → Type 0) (r : Result value.MemoryDevice E) : Type 0 where
+-- the record d by value, changed by a call on its words, of which `left` says what it may answer and leave
+pub record Changes {E : Type 0} (d : MemoryDevice) (left : Result Unit E → List ℕ → Type 0) (r : Result value.MemoryDevice (Refused E value.MemoryDevice)) : Type 0 where
   pub answer : Result Unit E
   pub words : List ℕ
   pub call : left answer words
-  pub value : ByValue answer words r
+  pub value : ByValue d answer words r

@@ -1,3 +1,4 @@
+pub mod Refused
 pub mod Record
 pub mod SetUp
 pub mod Host

@@ -1,12 +1,14 @@
 -- The device's record by value, and what a call of the host answers. Assumes nothing: these are definitions.
-use Rattle.std.specs.Prelude.{Result, Ok, Err}
-use Rattle.map_check.specs.Reply.{Reply, accepted, plain, reply_by}
+use Rattle.std.specs.Prelude.{Result}
+use Rattle.map_check.specs.Reply.{Reply, plain, reply_by}
 use Rattle.map_check.specs.declared.answer.RecordFault.{RecordFault}
 use Rattle.device_words.specs.Device.{MemoryDevice}
 use Rattle.map_records.specs.Refusal as refusal
+use Rattle.memory_device.specs.Refused.{value_reply, value_given}
 use Rattle.memory_device.specs.declared.device.MemoryDevice as value
 use Rattle.memory_device.specs.declared.device.HostFault.{HostFault}
 use Rattle.memory_device.specs.declared.device.HostFault.TheVariants as fault
+use Rattle.memory_device.specs.declared.refused.Refused.{Refused}
 
 -- the record that a value of the code is, field by field
 abbrev pub record_of : value.MemoryDevice → MemoryDevice
@@ -43,14 +45,13 @@ pub record HostOutcome : Type 0 where
   pub reply : Reply
   pub device : MemoryDevice
 
--- what an answer by value stands for: where it is a refusal, the state stays d
-abbrev pub outcome_by : {E : Type 0} → (E → Reply) → MemoryDevice → Result value.MemoryDevice E → HostOutcome
-outcome_by reply d (Ok next) = record { reply = accepted; device = record_of next }
-outcome_by reply d (Err e) = record { reply = reply e; device = d }
+-- what an answer by value stands for
+abbrev pub outcome_by : {E : Type 0} → (E → Reply) → Result value.MemoryDevice (Refused E value.MemoryDevice) → HostOutcome
+outcome_by reply a = record { reply = value_reply reply a; device = record_of (value_given a) }
 
--- of a call of the host on the record d, and of one that is refused with 27 alone
-abbrev pub host_outcome_of : MemoryDevice → Result value.MemoryDevice HostFault → HostOutcome
+-- of a call of the host, and of one that is refused with 27 alone
+abbrev pub host_outcome_of : Result value.MemoryDevice (Refused HostFault value.MemoryDevice) → HostOutcome
 host_outcome_of = outcome_by host_fault_reply
 
-abbrev pub record_outcome_of : MemoryDevice → Result value.MemoryDevice RecordFault → HostOutcome
+abbrev pub record_outcome_of : Result value.MemoryDevice (Refused RecordFault value.MemoryDevice) → HostOutcome
 record_outcome_of = outcome_by record_fault_reply

@@ -1,10 +1,12 @@
 -- A request carried out on a given record: '27 comes first'. Assumes nothing: these are definitions.
-use Rattle.std.specs.Prelude.{cond, ◌&&◌, List, ℕ, eqb, length, replicate, Result, Ok, Err}
-use Rattle.map_check.specs.Reply.{accepted, plain}
+use Rattle.std.specs.Prelude.{cond, ◌&&◌, List, ℕ, eqb, length, replicate, Result}
+use Rattle.map_check.specs.Reply.{plain}
 use Rattle.map_check.specs.declared.answer.RecordFault.{RecordFault}
 use Rattle.device_words.specs.Device.{MemoryDevice, device_ok}
 use Rattle.device_words.specs.Request.{RequestOutcome, request_of, carried_out}
 use Rattle.memory_device.specs.Record.{record_of, record_fault_reply}
+use Rattle.memory_device.specs.Refused.{value_reply, value_given}
+use Rattle.memory_device.specs.declared.refused.Refused.{Refused}
 use Rattle.map_records.specs.Refusal as refusal
 use Rattle.device_words.specs.Bytes.{response_length}
 use Rattle.memory_device.specs.declared.request.Carried.{Carried}
@@ -18,7 +20,6 @@ carried_into d s bytes =
 abbrev pub carried : MemoryDevice → List ℕ → RequestOutcome
 carried d s = carried_into d s (replicate response_length 0)
 
--- what the answer to a request on the record d stands for
-abbrev pub request_outcome_of : MemoryDevice → Result Carried RecordFault → RequestOutcome
-request_outcome_of d (Ok c) = record { reply = accepted; response = c.response; device = record_of c.device }
-request_outcome_of d (Err e) = record { reply = record_fault_reply e; response = replicate response_length 0; device = d }
+-- what the answer to a request stands for
+abbrev pub request_outcome_of : Result Carried (Refused RecordFault Carried) → RequestOutcome
+request_outcome_of a = record { reply = value_reply record_fault_reply a; response = (value_given a).response; device = record_of (value_given a).device }

@@ -11,6 +11,7 @@ use Rattle.memory_device.specs.declared.setup.DeviceValues.{DeviceValues}
 use Rattle.memory_device.specs.declared.device.MemoryDevice as value
 use Rattle.memory_device.specs.declared.setup.SetUpFault.{SetUpFault}
 use Rattle.memory_device.specs.declared.setup.SetUpFault.TheVariants as fault
+use Rattle.memory_device.specs.declared.refused.Refused.{Refused}
 
 -- the size of the managed region among the first n, and 0 where there is none
 unfoldable pub managed_in : RegionMap → ℕ → ℕ
@@ -57,5 +58,5 @@ set_up_fault_reply fault.Values = plain refusal.SETUP
 abbrev pub set_up_reply : {A : Type 0} → Result A SetUpFault → Reply
 set_up_reply = reply_by set_up_fault_reply
 
-abbrev pub set_up_outcome_of : Result value.MemoryDevice SetUpFault → HostOutcome
-set_up_outcome_of = outcome_by set_up_fault_reply no_device
+abbrev pub set_up_outcome_of : Result value.MemoryDevice (Refused SetUpFault value.MemoryDevice) → HostOutcome
+set_up_outcome_of = outcome_by set_up_fault_reply

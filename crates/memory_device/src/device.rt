@@ -5,6 +5,7 @@ ghost use Rattle.device_words.specs.Words.{device_at, device_of, device_words};
 ghost use Rattle.memory_device.specs.Record.{record_of, host_fault_reply};
 ghost use Rattle.memory_device.specs.declared.device.HostFault.TheVariants.{Record};
 
+use crate::refused::Refused;
 use device_words::table::{TABLE_WORDS, TableWords};
 use device_words::words::{
     ADDR, BLOCK_SIZE, DEVICE_WORDS, DeviceWords, PINNED, PLUGGED, REGION_SIZE, REQUESTED_SIZE,
@@ -43,6 +44,14 @@ impl Fault for HostFault {
             HostFault::Pin => Refusal::Pin,
             HostFault::Record => Refusal::Record,
         }
+    }
+}
+
+impl<V: Copy> From<Refused<HostFault, V>> for HostFault {
+    ghost from_gives = { λ refused fault. fault ≡ refused.fault };
+
+    fn from(refused: Refused<HostFault, V>) -> HostFault {
+        refused.fault
     }
 }
 

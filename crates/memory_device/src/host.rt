@@ -10,6 +10,7 @@ ghost use Rattle.memory_device.specs.Host.{resized, pin_block, unpin_block, syst
 
 use crate::calls;
 use crate::device::{HostFault, MemoryDevice, device_of, words_of};
+use crate::refused::Refused;
 use device_words::block::BlockNumber;
 use device_words::bytes::CONFIGURATION_BYTES;
 use device_words::rules::device_ok;
@@ -17,13 +18,16 @@ use map_check::answer::RecordFault;
 use map_records::map::RegionOffset;
 
 impl MemoryDevice {
-    // The call on the record's words, and the record that they are then.
-    fn changed<E, F: FnOnce(&mut [u64]) -> Result<(), E>>(self, call: F) -> Result<MemoryDevice, E>
+    // The call on the record's words, and the record that they are then. A refusal leaves the record as it was.
+    fn changed<E, F: FnOnce(&mut [u64]) -> Result<(), E>>(
+        self,
+        call: F,
+    ) -> Result<MemoryDevice, Refused<E, MemoryDevice>>
         requires { F.IsAlwaysCallable call }
-        ensures { Changes (λ answer words. FnOnceReturnsAtMut F.FnOnce call (device_words (record_of self)) answer words) result }
+        ensures { Changes (record_of self) (λ answer words. FnOnceReturnsAtMut F.FnOnce call (device_words (record_of self)) answer words) result }
     {
         let mut words = words_of(self);
-        call(&mut words)?;
+        call(&mut words).map_err(|fault| Refused { fault, left: self })?;
         Ok(device_of(&words))
     }
 
@@ -35,39 +39,47 @@ impl MemoryDevice {
     }
 
     // The requested size is set, and raises the usable size to it if that is lower.
-    pub fn set_requested_size(self, size: u64) -> Result<MemoryDevice, HostFault>
-        ensures { host_outcome_of (record_of self) result ≡ resized (record_of self) size }
+    pub fn set_requested_size(
+        self,
+        size: u64,
+    ) -> Result<MemoryDevice, Refused<HostFault, MemoryDevice>>
+        ensures { host_outcome_of result ≡ resized (record_of self) size }
     {
         self.changed(|words| calls::set_requested_size(words, size))
     }
 
     // A system reset: the fresh state, with the sizes and addr as they are.
-    pub fn system_reset(self) -> Result<MemoryDevice, RecordFault>
-        ensures { record_outcome_of (record_of self) result ≡ system_reset (record_of self) }
+    pub fn system_reset(self) -> Result<MemoryDevice, Refused<RecordFault, MemoryDevice>>
+        ensures { record_outcome_of result ≡ system_reset (record_of self) }
     {
         self.changed(|words| calls::system_reset(words))
     }
 
     // A block that the host holds, so that it is not unplugged.
-    pub fn pin(self, block: BlockNumber) -> Result<MemoryDevice, HostFault>
-        ensures { host_outcome_of (record_of self) result ≡ pin_block (record_of self) block.0 }
+    pub fn pin(self, block: BlockNumber) -> Result<MemoryDevice, Refused<HostFault, MemoryDevice>>
+        ensures { host_outcome_of result ≡ pin_block (record_of self) block.0 }
     {
         self.changed(|words| calls::pin(words, u64::from(block.0)))
     }
 
     // A block that the host holds no longer.
-    pub fn unpin(self, block: BlockNumber) -> Result<MemoryDevice, HostFault>
-        ensures { host_outcome_of (record_of self) result ≡ unpin_block (record_of self) block.0 }
+    pub fn unpin(self, block: BlockNumber) -> Result<MemoryDevice, Refused<HostFault, MemoryDevice>>
+        ensures { host_outcome_of result ≡ unpin_block (record_of self) block.0 }
     {
         self.changed(|words| calls::unpin(words, u64::from(block.0)))
     }
 
-    // The configuration that the guest reads.
-    pub fn configuration(self) -> Result<[u8; CONFIGURATION_BYTES], RecordFault>
+    // The configuration that the guest reads. A refusal leaves zeros.
+    pub fn configuration(
+        self,
+    ) -> Result<[u8; CONFIGURATION_BYTES], Refused<RecordFault, [u8; CONFIGURATION_BYTES]>>
         ensures { read_of result ≡ configured (record_of self) }
     {
         let mut bytes = [0; CONFIGURATION_BYTES];
-        calls::configuration(&words_of(self), &mut bytes)?;
+        calls::configuration(&words_of(self), &mut bytes).map_err(|fault| Refused {
+            fault,
+            left: [0; CONFIGURATION_BYTES],
+        })?;
         Ok(bytes)
     }
 

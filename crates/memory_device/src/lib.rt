@@ -5,6 +5,7 @@
 pub mod calls;
 pub mod device;
 pub mod host;
+pub mod refused;
 pub mod request;
 pub mod setup;
 mod state;

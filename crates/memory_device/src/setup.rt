@@ -1,11 +1,13 @@
 // Setting the device up from a given map.
 ghost use Rattle.std.specs.Prelude.{◌≡◌};
 ghost use Rattle.map_records.specs.Words.{map_of};
+ghost use Rattle.device_words.specs.Device.{no_device};
 ghost use Rattle.memory_device.specs.Record.{record_of};
 ghost use Rattle.memory_device.specs.SetUp.{region_size, fresh_device, set_up, set_up_fault_reply, set_up_outcome_of};
 ghost use Rattle.memory_device.specs.declared.setup.SetUpFault.TheVariants.{Map};
 
-use crate::device::MemoryDevice;
+use crate::device::{MemoryDevice, no_device};
+use crate::refused::Refused;
 use device_words::rules::setup_ok;
 use device_words::table::TABLE_WORDS;
 use map_check::answer::Fault;
@@ -60,11 +62,29 @@ impl Fault for SetUpFault {
     }
 }
 
+impl<V: Copy> From<Refused<SetUpFault, V>> for SetUpFault {
+    ghost from_gives = { λ refused fault. fault ≡ refused.fault };
+
+    fn from(refused: Refused<SetUpFault, V>) -> SetUpFault {
+        refused.fault
+    }
+}
+
 impl From<MapFault> for SetUpFault {
     ghost from_gives = { λ f e. e ≡ Map f };
 
     fn from(fault: MapFault) -> SetUpFault {
         SetUpFault::Map(fault)
+    }
+}
+
+// The refusal of a set-up: no device is left, which is the record of zeros.
+fn refused(fault: SetUpFault) -> Refused<SetUpFault, MemoryDevice>
+    ensures { (result.fault ≡ fault) × (record_of result.left ≡ no_device) }
+{
+    Refused {
+        fault,
+        left: no_device(),
     }
 }
 
@@ -79,15 +99,15 @@ fn managed_size(map: &CheckedMap) -> u64
         .map_or(0, |region| region.size)
 }
 
-// The fresh device of a map that is judged first.
+// The fresh device of a map that is judged first, or a refusal with the record of zeros.
 pub fn set_up(
     map: &[u64],
     memory_length: u64,
     values: DeviceValues,
-) -> Result<MemoryDevice, SetUpFault>
+) -> Result<MemoryDevice, Refused<SetUpFault, MemoryDevice>>
     ensures { set_up_outcome_of result ≡ set_up (map_of map.now) memory_length values }
 {
-    let map = checked_map(map, memory_length)?;
+    let map = checked_map(map, memory_length).map_err(|fault| refused(fault.into()))?;
     let region_size = managed_size(&map);
     if !setup_ok(
         values.block_size,
@@ -96,7 +116,7 @@ pub fn set_up(
         values.usable_size,
         values.requested_size,
     ) {
-        return Err(SetUpFault::Values);
+        return Err(refused(SetUpFault::Values));
     }
     Ok(values.fresh(region_size))
 }

@@ -1,11 +1,13 @@
 -- A promise fixes the code's answer: two answers of the code that stand for one of document 01's are equal. Assumes nothing.
-use Rattle.std.proofs.Common.{◌≡◌, ℕ, cond, false, eqb, refl, ap, arith}
+use Rattle.std.proofs.Common.{◌≡◌, ℕ, cond, eqb, refl, ap, arith}
 use Rattle.std.specs.Prelude.{Option, Some, None, Result, Ok, Err}
 use Rattle.map_check.specs.Reply.{Reply, number_of, passes, reply_by}
 use Rattle.map_check.specs.declared.answer.RecordFault.{RecordFault}
 use Rattle.map_check.proofs.Answers.{injective}
 use Rattle.memory_device.specs.Record.{record_reply}
-use Rattle.virtqueue.specs.Queue.{queue_fault_reply, record_fault_reply, queue_reply, stop_number, stop_reply, Given, given_by}
+use Rattle.memory_device.specs.declared.refused.Refused.{Refused}
+use Rattle.memory_device.proofs.Answers.{Read, answer_given, given_back}
+use Rattle.virtqueue.specs.Queue.{queue_fault_reply, record_fault_reply, queue_reply, stop_number, stop_reply, given_by}
 use Rattle.virtqueue.specs.Step as step
 use Rattle.virtqueue.specs.Does.{step_fault, step_fault_reply, answer_of}
 use Rattle.virtqueue.specs.Run as run
@@ -98,25 +100,15 @@ queue_replies_apart (Ok _) (Err f) e = absurd (omega (arith, ap number_of e))
 queue_replies_apart (Err f) (Ok _) e = absurd (omega (arith, ap number_of e))
 queue_replies_apart (Err f) (Err g) e = absurd (omega (arith, ap number_of e))
 
-given_to : {E : Type 0} → E → Given → Result SplitQueue E
-given_to e g = cond (passes g.reply) (Ok g.queue) (Err e)
+-- the record too: with the one of a refusal, the answer determines what was returned
+pub queue_given_injective : {E : Type 0} (fault : E → Reply) (f : Reply → E) → Read fault f → (a b : Result SplitQueue (Refused E SplitQueue)) → given_by fault a ≡ given_by fault b → a ≡ b
+queue_given_injective fault f r = injective (given_by fault) (λ g. answer_given f g.queue g.reply) (given_back fault f r)
 
-given_back : {E : Type 0} (fault : E → Reply) (e : E) → ((x : E) → passes (fault x) ≡ false) → ((x : E) → e ≡ x) → (left : SplitQueue) (a : Result SplitQueue E)
-    → given_to e (given_by fault left a) ≡ a
-unfolding given_to
-given_back fault e p u left (Ok q) = refl
-given_back {E = E} fault e p u left (Err x) = rw (p x) (ap (λ (y : E). Err y) (u x))
+pub made_injective : (a b : Result SplitQueue (Refused QueueFault SplitQueue)) → given_by queue_fault_reply a ≡ given_by queue_fault_reply b → a ≡ b
+made_injective = queue_given_injective queue_fault_reply (λ _. record {}) (record { refuses = λ e. refl; back = λ e. refl })
 
--- a call with one fault: its answer, with the record that a refusal stands for, determines what it returned
-pub queue_given_injective : {E : Type 0} (fault : E → Reply) (e : E) → ((x : E) → passes (fault x) ≡ false) → ((x : E) → e ≡ x) → (left : SplitQueue) (a b : Result SplitQueue E)
-    → given_by fault left a ≡ given_by fault left b → a ≡ b
-queue_given_injective fault e p u left = injective (given_by fault left) (given_to e) (given_back fault e p u left)
-
-pub made_injective : (left : SplitQueue) (a b : Result SplitQueue QueueFault) → given_by queue_fault_reply left a ≡ given_by queue_fault_reply left b → a ≡ b
-made_injective = queue_given_injective queue_fault_reply (record {}) (λ x. refl) (λ x. refl)
-
-pub reset_injective : (left : SplitQueue) (a b : Result SplitQueue RecordFault) → given_by record_fault_reply left a ≡ given_by record_fault_reply left b → a ≡ b
-reset_injective = queue_given_injective record_fault_reply (record {}) (λ x. refl) (λ x. refl)
+pub reset_injective : (a b : Result SplitQueue (Refused RecordFault SplitQueue)) → given_by record_fault_reply a ≡ given_by record_fault_reply b → a ≡ b
+reset_injective = queue_given_injective record_fault_reply (λ _. record {}) (record { refuses = λ e. refl; back = λ e. refl })
 
 -- and what stops a queue is determined by its reply
 pub stop_reply_injective : (a b : QueueStop) → stop_reply a ≡ stop_reply b → a ≡ b

@@ -1,5 +1,5 @@
 -- The split queue's record: 16, 27, making and reset, and where its areas lie. Assumes nothing: these are definitions.
-use Rattle.std.specs.Prelude.{◌≡◌, ℕ, ◌+◌, ◌-◌, ◌*◌, ◌%◌, Bool, cond, ◌&&◌, ◌||◌, ◌==◌, nat_le, Result, Ok, Err, Option, MatchOption}
+use Rattle.std.specs.Prelude.{◌≡◌, ℕ, ◌+◌, ◌-◌, ◌*◌, ◌%◌, Bool, cond, ◌&&◌, ◌||◌, ◌==◌, nat_le, Result, Option, MatchOption}
 use Rattle.map_records.specs.Limits.{limit}
 use Rattle.map_check.specs.Reply.{Reply, accepted, plain, reply_by}
 use Rattle.map_records.specs.Refusal as refusal
@@ -8,6 +8,8 @@ use Rattle.virtqueue.specs.declared.queue.QueueFault.{QueueFault}
 use Rattle.virtqueue.specs.declared.queue.QueueStop.{QueueStop}
 use Rattle.virtqueue.specs.declared.queue.QueueStop.TheVariants as stop
 use Rattle.map_check.specs.declared.answer.RecordFault.{RecordFault}
+use Rattle.memory_device.specs.Refused.{value_reply, value_given}
+use Rattle.memory_device.specs.declared.refused.Refused.{Refused}
 
 -- 16: 'queue size not a power of two from 1 to 256'
 abbrev pub largest_queue : ℕ
@@ -82,10 +84,9 @@ record_fault_reply f = plain refusal.RECORD
 abbrev pub queue_reply : {A : Type 0} → Result A QueueFault → Reply
 queue_reply = reply_by queue_fault_reply
 
--- a call that makes a record returned r, where `left` stands for the record of a refusal
-abbrev pub given_by : {E : Type 0} → (E → Reply) → SplitQueue → Result SplitQueue E → Given
-given_by fault left (Ok q) = record { reply = accepted; queue = q }
-given_by fault left (Err e) = record { reply = fault e; queue = left }
+-- what the answer of a call that makes a record stands for
+abbrev pub given_by : {E : Type 0} → (E → Reply) → Result SplitQueue (Refused E SplitQueue) → Given
+given_by fault a = record { reply = value_reply fault a; queue = value_given a }
 
 -- document 01's number for each of what stops a queue, and what a number stands for
 abbrev pub stop_number : QueueStop → ℕ

@@ -9,6 +9,7 @@ use map_check::answer::{Fault, RecordFault};
 use map_records::map::GuestAddress;
 use map_records::numbers::{LIMIT, sum_within};
 use map_records::refusal::Refusal;
+use memory_device::refused::Refused;
 
 // The queue's size and areas, the two free-running indices, and the stop: 0 for none, or document 01's
 // number, as it was given, since 27 judges it. `next_available` is what document 01 calls seen, `next_used` its
@@ -33,6 +34,14 @@ impl Fault for QueueFault {
 
     fn refusal(self) -> Refusal {
         Refusal::Queue
+    }
+}
+
+impl<V: Copy> From<Refused<QueueFault, V>> for QueueFault {
+    ghost from_gives = { λ refused fault. fault ≡ refused.fault };
+
+    fn from(refused: Refused<QueueFault, V>) -> QueueFault {
+        refused.fault
     }
 }
 
@@ -90,17 +99,35 @@ fn areas_ok(size: u16, descriptors: u64, available: u64, used: u64) -> bool
             & (area_ok(available, 2, 6 + 2 * n) & area_ok(used, 4, 6 + 8 * n)))
 }
 
-// A queue of a size and three areas, with its indices at 0.
+// The record of no queue.
+fn no_queue() -> SplitQueue
+    ensures { result ≡ no_queue }
+{
+    SplitQueue {
+        size: 0,
+        descriptors: GuestAddress(0),
+        available: GuestAddress(0),
+        used: GuestAddress(0),
+        next_available: 0,
+        next_used: 0,
+        stop: 0,
+    }
+}
+
+// A queue of a size and three areas, with its indices at 0. A refusal leaves the record of no queue.
 pub fn make_queue(
     size: u16,
     descriptors: GuestAddress,
     available: GuestAddress,
     used: GuestAddress,
-) -> Result<SplitQueue, QueueFault>
-    ensures { given_by queue_fault_reply no_queue result ≡ made size descriptors.0 available.0 used.0 }
+) -> Result<SplitQueue, Refused<QueueFault, SplitQueue>>
+    ensures { given_by queue_fault_reply result ≡ made size descriptors.0 available.0 used.0 }
 {
     if !areas_ok(size, descriptors.0, available.0, used.0) {
-        return Err(QueueFault);
+        return Err(Refused {
+            fault: QueueFault,
+            left: no_queue(),
+        });
     }
     Ok(SplitQueue {
         size,
@@ -158,12 +185,15 @@ impl SplitQueue {
         }
     }
 
-    // A queue reset: the indices at 0 and the stop cleared.
-    pub fn reset(self) -> Result<SplitQueue, RecordFault>
-        ensures { given_by record_fault_reply self result ≡ was_reset self }
+    // A queue reset: the indices at 0 and the stop cleared. A refusal leaves the record as it was.
+    pub fn reset(self) -> Result<SplitQueue, Refused<RecordFault, SplitQueue>>
+        ensures { given_by record_fault_reply result ≡ was_reset self }
     {
         if !self.keeps_rules() {
-            return Err(RecordFault);
+            return Err(Refused {
+                fault: RecordFault,
+                left: self,
+            });
         }
         Ok(SplitQueue {
             next_available: 0,

@@ -16,6 +16,7 @@ use Rattle.map_check.specs.declared.answer.RecordFault.{RecordFault}
 use Rattle.device_words.specs.Device.{MemoryDevice}
 use Rattle.device_words.specs.Words.{is_device, device_of, device_words}
 use Rattle.memory_device.specs.Record.{record_reply}
+use Rattle.memory_device.specs.declared.refused.Refused.{Refused}
 use Rattle.virtqueue.specs.Queue.{size_ok, areas_ok, made, was_reset, record_fault_reply, given_by}
 use Rattle.virtqueue.specs.Step.{Answer, stepped}
 use Rattle.virtqueue.specs.Does.{answer_of, step_fault_reply, laid, DoesIn}
@@ -123,12 +124,12 @@ module _ (w : List ℕ) where
   unfolding reset_queue_call
   reset_unfit f e = rw f (e, refl)
 
-  pub reset_refused : {n : ℕ} {q : SplitQueue} {r : Result SplitQueue RecordFault} {d : RecordFault} → Read w q → given_by record_fault_reply q r ≡ was_reset q → r ≡ Err d
-      → n ≡ 27 → ReturnsWords (reset_queue_call w) n w
+  pub reset_refused : {n : ℕ} {q : SplitQueue} {r : Result SplitQueue (Refused RecordFault SplitQueue)} {d : Refused RecordFault SplitQueue} → Read w q
+      → given_by record_fault_reply r ≡ was_reset q → r ≡ Err d → n ≡ 27 → ReturnsWords (reset_queue_call w) n w
   unfolding reset_queue_call
   reset_refused l g s e = rw (l.fits, ← l.queue, ← g, s) (e, refl)
 
-  pub reset_done : {q p : SplitQueue} {r : Result SplitQueue RecordFault} {w' : List ℕ} → Read w q → given_by record_fault_reply q r ≡ was_reset q → r ≡ Ok p
+  pub reset_done : {q p : SplitQueue} {r : Result SplitQueue (Refused RecordFault SplitQueue)} {w' : List ℕ} → Read w q → given_by record_fault_reply r ≡ was_reset q → r ≡ Ok p
       → w' ≡ queue_words p → ReturnsWords (reset_queue_call w) 0 w'
   unfolding reset_queue_call
   reset_done l g s e = rw (l.fits, ← l.queue, ← g, s) (refl, e)

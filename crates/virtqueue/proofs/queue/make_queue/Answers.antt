@@ -5,7 +5,7 @@ use Rattle.virtqueue.proofs.queue.make_queue.Goals as goal
 
 pub returns-then-not-areas_ok : goal.returns-then-not-areas_ok
 unfolding made
-returns-then-not-areas_ok c = rw (sym c.areas_ok.ensures ∙ c.if-not-areas_ok.true)
+returns-then-not-areas_ok c = rw (sym c.areas_ok.ensures ∙ c.if-not-areas_ok.true, c.no_queue.ensures)
 
 pub returns : goal.returns
 unfolding made
