@@ -55,6 +55,14 @@ impl<V: Copy> From<Refused<HostFault, V>> for HostFault {
     }
 }
 
+impl<V: Copy> From<Refused<RecordFault, V>> for HostFault {
+    ghost from_gives = { λ _ fault. fault ≡ Record };
+
+    fn from(_refused: Refused<RecordFault, V>) -> HostFault {
+        HostFault::Record
+    }
+}
+
 impl From<RecordFault> for HostFault {
     ghost from_gives = { λ _ e. e ≡ Record };
 

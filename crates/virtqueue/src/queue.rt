@@ -14,7 +14,7 @@ use memory_device::refused::Refused;
 // The queue's size and areas, the two free-running indices, and the stop: 0 for none, or document 01's
 // number, as it was given, since 27 judges it. `next_available` is what document 01 calls seen, `next_used` its
 // own count.
-#[derive(Clone, Copy)]
+#[derive(Clone, Copy, Debug, PartialEq, Eq)]
 pub struct SplitQueue {
     pub size: u16,
     pub descriptors: GuestAddress,
