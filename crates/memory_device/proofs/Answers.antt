@@ -29,7 +29,7 @@ use Rattle.memory_device.specs.declared.setup.SetUpFault.{SetUpFault}
 use Rattle.memory_device.specs.declared.setup.SetUpFault.TheVariants.{Map, Values}
 
 -- the answer of a reply: the value x, or the fault that f reads
-abbrev pub answer_by : {A E : Type 0} → (Reply → E) → A → Reply → Result A E
+abbrev answer_by : {A E : Type 0} → (Reply → E) → A → Reply → Result A E
 answer_by f x accepted = Ok x
 answer_by f x (nodes k i j) = Err (f (nodes k i j))
 answer_by f x (place k p) = Err (f (place k p))
@@ -40,14 +40,15 @@ pub record Read {E : Type 0} (reply : E → Reply) (f : Reply → E) : Type 0 wh
   pub refuses : (e : E) → passes (reply e) ≡ false
   pub back : (e : E) → f (reply e) ≡ e
 
+-- a reply that refuses is that of a fault
+by_fault : {A E : Type 0} (f : Reply → E) (x : A) (q : Reply) → passes q ≡ false → answer_by f x q ≡ Err (f q)
+by_fault f x accepted p = absurd (never p)
+by_fault f x (nodes k i j) p = refl
+by_fault f x (place k q) p = refl
+by_fault f x (plain k) p = refl
+
 fault_back : {A E : Type 0} (reply : E → Reply) (f : Reply → E) → Read reply f → (x : A) (e : E) → answer_by f x (reply e) ≡ Err e
-fault_back reply f r x e = go (reply e) (r.refuses e) ∙ ap Err (r.back e)
-  where
-    go : (q : Reply) → passes q ≡ false → answer_by f x q ≡ Err (f q)
-    go accepted p = absurd (never p)
-    go (nodes k i j) p = refl
-    go (place k q) p = refl
-    go (plain k) p = refl
+fault_back reply f r x e = by_fault f x (reply e) (r.refuses e) ∙ ap Err (r.back e)
 
 abbrev host_fault_of : Reply → HostFault
 host_fault_of accepted = Record
@@ -68,7 +69,7 @@ host_read = record { refuses = refuses; back = back }
     back Pin = refl
     back Record = refl
 
-record_read : Read record_fault_reply (λ _. record {})
+pub record_read : Read record_fault_reply (λ _. record {})
 record_read = record { refuses = λ e. refl; back = λ e. refl }
 
 -- ---- an answer alone
@@ -146,13 +147,7 @@ answer_given f v = answer_by (λ r. record { fault = f r; left = v }) v
 
 pub given_back : {E V : Type 0} (reply : E → Reply) (f : Reply → E) → Read reply f → (a : Result V (Refused E V)) → answer_given f (value_given a) (value_reply reply a) ≡ a
 given_back reply f r (Ok v) = refl
-given_back reply f r (Err e) = go (reply e.fault) (r.refuses e.fault) ∙ ap (λ x. Err (record { fault = x; left = e.left })) (r.back e.fault)
-  where
-    go : (q : Reply) → passes q ≡ false → answer_given f e.left q ≡ Err (record { fault = f q; left = e.left })
-    go accepted p = absurd (never p)
-    go (nodes k i j) p = refl
-    go (place k q) p = refl
-    go (plain k) p = refl
+given_back reply f r (Err e) = by_fault (λ q. record { fault = f q; left = e.left }) e.left (reply e.fault) (r.refuses e.fault) ∙ ap (λ x. Err (record { fault = x; left = e.left })) (r.back e.fault)
 
 -- the next state
 module _ {E : Type 0} (reply : E → Reply) (f : Reply → E) (r : Read reply f) where

@@ -1,11 +1,11 @@
-// The refusal of a call by value, which gives a value beside the fault.
+// The refusal of a call by value, which returns a value too.
 ghost use Rattle.std.specs.Prelude.{◌≡◌};
 ghost use Rattle.memory_device.specs.Refused.{refused_reply};
 
 use map_check::answer::{Fault, RecordFault};
 use map_records::refusal::Refusal;
 
-// The fault, and the value that stands then: the one that was passed, or one of zeros.
+// The fault, and the value to go on with: the one that was passed, or zeros.
 #[derive(Clone, Copy, Debug, PartialEq, Eq)]
 pub struct Refused<E, V> {
     pub fault: E,
@@ -20,7 +20,7 @@ impl<E: Fault, V: Copy> Fault for Refused<E, V> {
     }
 }
 
-// `?` passes the fault on alone. The other faults have theirs where they are declared.
+// `?` keeps the fault and drops the value. Each other fault has its own `From`, where it is declared.
 impl<V: Copy> From<Refused<RecordFault, V>> for RecordFault {
     ghost from_gives = { λ refused fault. fault ≡ refused.fault };
 

@@ -4,10 +4,10 @@ use Rattle.std.specs.Prelude.{Option, Some, None, Result, Ok, Err}
 use Rattle.map_check.specs.Reply.{Reply, number_of, passes, reply_by}
 use Rattle.map_check.specs.declared.answer.RecordFault.{RecordFault}
 use Rattle.map_check.proofs.Answers.{injective}
-use Rattle.memory_device.specs.Record.{record_reply}
+use Rattle.memory_device.specs.Record.{record_fault_reply, record_reply}
 use Rattle.memory_device.specs.declared.refused.Refused.{Refused}
-use Rattle.memory_device.proofs.Answers.{Read, answer_given, given_back}
-use Rattle.virtqueue.specs.Queue.{queue_fault_reply, record_fault_reply, queue_reply, stop_number, stop_reply, given_by}
+use Rattle.memory_device.proofs.Answers.{Read, record_read, answer_given, given_back}
+use Rattle.virtqueue.specs.Queue.{queue_fault_reply, queue_reply, stop_number, stop_reply, given_by}
 use Rattle.virtqueue.specs.Step as step
 use Rattle.virtqueue.specs.Does.{step_fault, step_fault_reply, answer_of}
 use Rattle.virtqueue.specs.Run as run
@@ -108,7 +108,7 @@ pub made_injective : (a b : Result SplitQueue (Refused QueueFault SplitQueue)) �
 made_injective = queue_given_injective queue_fault_reply (λ _. record {}) (record { refuses = λ e. refl; back = λ e. refl })
 
 pub reset_injective : (a b : Result SplitQueue (Refused RecordFault SplitQueue)) → given_by record_fault_reply a ≡ given_by record_fault_reply b → a ≡ b
-reset_injective = queue_given_injective record_fault_reply (λ _. record {}) (record { refuses = λ e. refl; back = λ e. refl })
+reset_injective = queue_given_injective record_fault_reply (λ _. record {}) record_read
 
 -- and what stops a queue is determined by its reply
 pub stop_reply_injective : (a b : QueueStop) → stop_reply a ≡ stop_reply b → a ≡ b

@@ -7,7 +7,6 @@ use Rattle.virtqueue.specs.declared.queue.SplitQueue.{SplitQueue}
 use Rattle.virtqueue.specs.declared.queue.QueueFault.{QueueFault}
 use Rattle.virtqueue.specs.declared.queue.QueueStop.{QueueStop}
 use Rattle.virtqueue.specs.declared.queue.QueueStop.TheVariants as stop
-use Rattle.map_check.specs.declared.answer.RecordFault.{RecordFault}
 use Rattle.memory_device.specs.Refused.{value_reply, value_given}
 use Rattle.memory_device.specs.declared.refused.Refused.{Refused}
 
@@ -73,14 +72,11 @@ made size descriptors available used =
 unfoldable pub was_reset : SplitQueue → Given
 was_reset q = cond (queue_ok q) (record { reply = accepted; queue = cleared q }) (record { reply = plain refusal.RECORD; queue = q })
 
--- document 01's reply for each fault
+-- document 01's reply for the fault of making a queue
 abbrev pub queue_fault_reply : QueueFault → Reply
 queue_fault_reply f = plain refusal.QUEUE
 
-abbrev pub record_fault_reply : RecordFault → Reply
-record_fault_reply f = plain refusal.RECORD
-
--- and for each answer of making a queue; a reset's is that of any call refused with 27 alone, `record_reply`
+-- and for each answer; a reset's are those of any call refused with 27 alone, `record_fault_reply` and `record_reply` of `memory_device`
 abbrev pub queue_reply : {A : Type 0} → Result A QueueFault → Reply
 queue_reply = reply_by queue_fault_reply
 

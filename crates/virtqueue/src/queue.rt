@@ -2,8 +2,9 @@
 ghost use Rattle.std.specs.Prelude.{◌≡◌, ◌<◌};
 ghost use Rattle.map_records.specs.Refusal.{number};
 ghost use Rattle.map_check.specs.Reply.{Reply, number_of};
+ghost use Rattle.memory_device.specs.Record.{record_fault_reply};
 ghost use Rattle.virtqueue.specs.Queue.{size_ok, area_ok, areas_ok, queue_ok, no_queue, made, was_reset, given_by};
-ghost use Rattle.virtqueue.specs.Queue.{queue_fault_reply, record_fault_reply, stop_reply, stop_number, StopOf, stopped_by, advanced};
+ghost use Rattle.virtqueue.specs.Queue.{queue_fault_reply, stop_reply, stop_number, StopOf, stopped_by, advanced};
 
 use map_check::answer::{Fault, RecordFault};
 use map_records::map::GuestAddress;

@@ -15,9 +15,9 @@ use Rattle.map_check.specs.Reply.{number_of, reply_by}
 use Rattle.map_check.specs.declared.answer.RecordFault.{RecordFault}
 use Rattle.device_words.specs.Device.{MemoryDevice}
 use Rattle.device_words.specs.Words.{is_device, device_of, device_words}
-use Rattle.memory_device.specs.Record.{record_reply}
+use Rattle.memory_device.specs.Record.{record_fault_reply, record_reply}
 use Rattle.memory_device.specs.declared.refused.Refused.{Refused}
-use Rattle.virtqueue.specs.Queue.{size_ok, areas_ok, made, was_reset, record_fault_reply, given_by}
+use Rattle.virtqueue.specs.Queue.{size_ok, areas_ok, made, was_reset, given_by}
 use Rattle.virtqueue.specs.Step.{Answer, stepped}
 use Rattle.virtqueue.specs.Does.{answer_of, step_fault_reply, laid, DoesIn}
 use Rattle.virtqueue.specs.Run.{run_end_of, ran, RunDoes}
