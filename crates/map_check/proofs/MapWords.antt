@@ -14,7 +14,8 @@ use Rattle.map_records.proofs.WordLaws.{map_other}
 use Rattle.map_check.specs.Reply.{Reply, accepted, nodes, place, plain}
 use Rattle.map_check.specs.Check.{count_fault, judged_by, judged, Accepted, Checked}
 use Rattle.map_check.specs.Promises.{Walkable, Tree}
-use Rattle.map_check.proofs.Accepted.{accepted_sound, accepted_walkable}
+use Rattle.map_check.specs.Sound.{Sound}
+use Rattle.map_check.proofs.Accepted.{accepted_sound, sound_accepted, accepted_walkable}
 
 pub count_other : (w : List ℕ) → (length w ≡ map_length → ⊥) → count_fault (map_of w).count ≡ true
 count_other w other = rw (map_other w other) refl
@@ -51,3 +52,23 @@ checked_walkable w known = accepted_walkable (map_of w) known.memory known.accep
 
 pub checked_few : (w : List ℕ) → Checked w → (map_of w).count ≤ most_regions
 checked_few w known = (checked_walkable w known).count
+
+-- No region ends past 2^49, so what is accepted over some length of memory is accepted over the longest: who knows words to be checked is given them as a `CheckedMap` by `checked_map` with that length.
+pub checked_longest : (w : List ℕ) → Checked w → Accepted (map_of w) 18446744073709551615
+checked_longest w known =
+    let s = accepted_sound (map_of w) known.memory known.accepted in
+    let longest : Sound (map_of w) 18446744073709551615 = record {
+      some = s.some;
+      count = s.count;
+      kinds = s.kinds;
+      bounded = s.bounded;
+      parents = s.parents;
+      targets = s.targets;
+      root = s.root;
+      ends = λ n h memory. omega (arith, (s.bounded n h).start, (s.bounded n h).size);
+      bytes = s.bytes;
+      single = s.single;
+      ports = s.ports;
+      siblings = s.siblings;
+    } in
+    sound_accepted (map_of w) 18446744073709551615 longest

@@ -4,4 +4,5 @@ pub mod LawsForPlugging
 mod CallLaws
 pub mod Plugged
 mod LastManaged
+pub mod Left
 mod SetUpLaws

@@ -3,6 +3,7 @@ pub mod ChainLaws
 pub mod Demand2
 pub mod Demand3
 pub mod DeviceLaws
+pub mod Left
 pub mod MadeView
 pub mod MadeWords
 pub mod Plugged

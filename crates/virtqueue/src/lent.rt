@@ -1,5 +1,5 @@
 // The guest's memory as the reading half of a step sees it.
-ghost use Rattle.std.specs.Prelude.{◌≡◌, true, length};
+ghost use Rattle.std.specs.Prelude.{◌≡◌, ◌≤◌, true, length};
 ghost use Rattle.map_records.specs.Words.{view_of};
 ghost use Rattle.guest_view.specs.Guest.{all_reach};
 ghost use Rattle.guest_view.specs.Promises.{Backed, InMemory, number_in, reach_in};
@@ -9,8 +9,8 @@ use crate::queue::SplitQueue;
 use guest_view::reach::Guest;
 use map_records::map::GuestAddress;
 
-// The guest's view and blocks, the memory, a queue that keeps 27's rules, and a range in which it is likely to lie; any
-// number will do.
+// The guest's view and blocks, none of them shorter than eight bytes; the memory; a queue that keeps 27's rules; and a range
+// in which it is likely to lie; any number will do.
 #[derive(Drop)]
 pub struct Lent<'v, 'd, 'm> {
     pub guest: Guest<'v, 'd>,
@@ -18,6 +18,7 @@ pub struct Lent<'v, 'd, 'm> {
     pub queue: SplitQueue,
     pub hint: usize,
     pub ghost backed: { Backed (view_of guest.view) (length mem.now) },
+    pub ghost large: { 8 ≤ guest.blocks.size },
     pub ghost kept: { queue_ok queue ≡ true },
 }
 

@@ -38,7 +38,11 @@ invariant_of-blocks c = let w = c.args.device.now in
     }
 
 pub invariant_of-lent : goal.invariant_of-lent
-invariant_of-lent c = record { backed = rw c.again.ensures c.requires.backed; kept = c.requires.queue }
+invariant_of-lent c = record {
+  backed = rw c.again.ensures c.requires.backed;
+  large = omega (arith, c.block_size.ensures, (device_valid (device_of c.args.device.now) c.requires.valid).least);
+  kept = c.requires.queue;
+}
 
 pub used_places-used-requires : goal.used_places-used-requires
 used_places-used-requires c = let a = c.args in
