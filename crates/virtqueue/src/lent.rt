@@ -9,7 +9,7 @@ use crate::queue::SplitQueue;
 use guest_view::reach::Guest;
 use map_records::map::GuestAddress;
 
-// The guest's view and blocks, none of them shorter than eight bytes; the memory; a queue that keeps 27's rules; and a range
+// The guest's view and blocks (no block is shorter than eight bytes), the memory, a queue that keeps 27's rules, and a range
 // in which it is likely to lie; any number will do.
 #[derive(Drop)]
 pub struct Lent<'v, 'd, 'm> {
