@@ -1,17 +1,20 @@
 -- What the two searches find, and the check as its parts. Assumes nothing.
 use mathlib.Core.Path.{◌≡◌, refl, sym, ap, ◌∙◌}
-use borrow.Author.Tests.{ne_eqb, le-ltb}
-use mathlib.Core.Bool.{Bool, true, false}
+use borrow.Author.Tests.{ne_eqb, le-ltb, eqb-false, ltb-false}
+use lib.Dec.{eqb, ltb}
+use mathlib.Core.Bool.{Bool, true, false, cond, ◌&&◌}
 use native.Mathlib.Omega.{arith}
 use Rattle.std.proofs.Common.{Option, Some, None, ◌≤◌, ◌<◌}
 use Rattle.std.specs.Option.{MatchOption}
-use Rattle.map_check.specs.Reply.{Reply, accepted, nodes, ◌then◌, passes, first_pair}
+use Rattle.map_check.specs.Reply.{Reply, accepted, nodes, place, plain, ◌then◌, passes, number_of, first, lowest, pairs_of, first_pair}
 use Rattle.map_check.specs.Promises.{Tests, TestsPairs, pairs, LowestIs, FirstIs, on_regions, on_pairs}
 use Rattle.map_check.specs.Check.{fault_reply, count_fault, judged_by, judged}
 use Rattle.map_check.specs.declared.check.MapFault.{MapFault}
 use Rattle.map_check.proofs.Answers.{fault_form}
+use Rattle.map_check.proofs.Bools.{or_left, or_right}
+use Rattle.map_check.specs.Fault.{kind_fault, field_fault, link_fault, memory_fault}
 use Rattle.map_check.specs.Clash.{priority_of, memory_clash, managed_clash, port_clash, sibling_clash}
-use Prim.Native.Nat.{ℕ}
+use Prim.Native.Nat.{ℕ, zero, suc}
 use Rattle.map_records.specs.Map.{region}
 use Rattle.map_records.specs.declared.map.Region.{Region}
 use Rattle.map_records.specs.declared.map.RegionMap.{RegionMap}
@@ -38,6 +41,39 @@ module _ (m : RegionMap) (rule : Region → Region → Bool) {answers : Region �
 
   pub pair_passed : ((i : ℕ) → i < n → (j : ℕ) → j < n → i < j → answers (region m i) (region m j) false) → FirstIs (pairs m rule) m.count None
   pair_passed none = λ k. pair_none (pairs m rule) k m.count (λ i p j q r. sym (tests _ _ false (none i (omega arith) j (omega arith) r)))
+
+-- an answer with another number than 3, of a rule and of rules one after another
+Other : Reply → Type 0
+Other r = number_of r ≡ 3 → ⊥
+
+nothing_other : Other accepted
+unfolding Other
+nothing_other e = omega (arith, e)
+
+then_other : (a b : Reply) → Other a → Other b → Other (a then b)
+then_other accepted b p q = q
+then_other (nodes k i j) b p q = p
+then_other (place k i) b p q = p
+then_other (plain k) b p q = p
+
+first_other : (f : ℕ → Reply) → ((i : ℕ) → Other (f i)) → (n : ℕ) → Other (first f n)
+unfolding first
+first_other f h zero = nothing_other
+first_other f h (suc n) = then_other (first f n) (f n) (first_other f h n) (h n)
+
+module _ (k : ℕ) (other : k ≡ 3 → ⊥) where
+  tested_other : (b : Bool) (i j : ℕ) → Other (cond b (nodes k i j) accepted)
+  unfolding Other
+  tested_other true i j = other
+  tested_other false i j = nothing_other
+
+  lowest_other : (f : ℕ → Bool) (n : ℕ) → Other (lowest k f n)
+  unfolding lowest
+  lowest_other f n = first_other (λ i. cond (f i) (nodes k i i) accepted) (λ i. tested_other (f i) i i) n
+
+  pair_other : (f : ℕ → ℕ → Bool) (n : ℕ) → Other (first_pair k f n)
+  unfolding first_pair pairs_of
+  pair_other f n = first_other (pairs_of k f n) (λ i. first_other (λ j. cond (ltb i j && f i j) (nodes k i j) accepted) (λ j. tested_other (ltb i j && f i j) i j) n) n
 
 module _ (m : RegionMap) (memory : ℕ) where
   pub judged_count : count_fault m.count ≡ true → nodes 3 0 0 ≡ judged m memory
@@ -66,3 +102,37 @@ module _ (m : RegionMap) (memory : ℕ) where
 
     pub judged_accepted : accepted ≡ on_regions m memory → accepted ≡ on_pairs m → accepted ≡ judged m memory
     judged_accepted e f = f ∙ judged_passed e
+
+  rules_other : Other (on_regions m memory then on_pairs m)
+  unfolding on_regions on_pairs
+  rules_other =
+      let kinds = lowest 4 (λ n. kind_fault (region m n).kind) m.count in
+      let fields = lowest 6 (λ n. field_fault (region m n)) m.count in
+      let links = lowest 7 (λ n. link_fault m n) m.count in
+      let ends = lowest 8 (λ n. memory_fault memory (region m n)) m.count in
+      let bytes = first_pair 8 (λ i j. memory_clash (region m i) (region m j)) m.count in
+      let single = first_pair 9 (λ i j. managed_clash (region m i) (region m j)) m.count in
+      let ports = first_pair 10 (λ i j. port_clash (region m i) (region m j)) m.count in
+      let siblings = first_pair 11 (λ i j. sibling_clash priority_of m i j) m.count in
+      then_other (kinds then fields then links then ends) (bytes then single then ports then siblings)
+      (then_other (kinds then fields then links) ends
+      (then_other (kinds then fields) links
+      (then_other kinds fields (lowest_other 4 (λ e. omega (arith, e)) _ _) (lowest_other 6 (λ e. omega (arith, e)) _ _))
+      (lowest_other 7 (λ e. omega (arith, e)) _ _))
+      (lowest_other 8 (λ e. omega (arith, e)) _ _))
+      (then_other (bytes then single then ports) siblings
+      (then_other (bytes then single) ports
+      (then_other bytes single (pair_other 8 (λ e. omega (arith, e)) _ _) (pair_other 9 (λ e. omega (arith, e)) _ _))
+      (pair_other 10 (λ e. omega (arith, e)) _ _))
+      (pair_other 11 (λ e. omega (arith, e)) _ _))
+
+  -- and 3 is the answer only there
+  pub judged_count_only : number_of (judged m memory) ≡ 3 → count_fault m.count ≡ true
+  unfolding Other
+  judged_count_only e = go (count_fault m.count) refl
+    where
+      go : (b : Bool) → count_fault m.count ≡ b → b ≡ true
+      go true p = refl
+      go false p =
+          let parts = judged_parts (eqb-false m.count 0 (or_left (eqb m.count 0) (ltb 32 m.count) p)) (ltb-false 32 m.count (or_right (eqb m.count 0) (ltb 32 m.count) p)) in
+          absurd (rules_other (sym (ap number_of parts) ∙ e))

@@ -4,6 +4,6 @@ pub mod Bools
 mod ClashLaws
 mod FaultLaws
 pub mod First
-mod Found
+pub mod Found
 pub mod MapWords
 pub mod Replies
