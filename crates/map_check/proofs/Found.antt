@@ -126,7 +126,7 @@ module _ (m : RegionMap) (memory : ℕ) where
       (pair_other 10 (λ e. omega (arith, e)) _ _))
       (pair_other 11 (λ e. omega (arith, e)) _ _))
 
-  -- and 3 is the answer only there
+  -- 3 is the answer only where the count is at fault
   pub judged_count_only : number_of (judged m memory) ≡ 3 → count_fault m.count ≡ true
   unfolding Other
   judged_count_only e = go (count_fault m.count) refl
