@@ -12,7 +12,6 @@ use Rattle.map_check.specs.Check.{fault_reply, count_fault, judged_by, judged}
 use Rattle.map_check.specs.declared.check.MapFault.{MapFault}
 use Rattle.map_check.proofs.Answers.{fault_form}
 use Rattle.map_check.proofs.Bools.{or_left, or_right}
-use Rattle.map_check.specs.Fault.{kind_fault, field_fault, link_fault, memory_fault}
 use Rattle.map_check.specs.Clash.{priority_of, memory_clash, managed_clash, port_clash, sibling_clash}
 use Prim.Native.Nat.{ℕ, zero, suc}
 use Rattle.map_records.specs.Map.{region}
@@ -42,38 +41,40 @@ module _ (m : RegionMap) (rule : Region → Region → Bool) {answers : Region �
   pub pair_passed : ((i : ℕ) → i < n → (j : ℕ) → j < n → i < j → answers (region m i) (region m j) false) → FirstIs (pairs m rule) m.count None
   pair_passed none = λ k. pair_none (pairs m rule) k m.count (λ i p j q r. sym (tests _ _ false (none i (omega arith) j (omega arith) r)))
 
--- an answer with another number than 3, of a rule and of rules one after another
-Other : Reply → Type 0
-Other r = number_of r ≡ 3 → ⊥
+-- an answer with another number than x
+Other : ℕ → Reply → Type 0
+Other x r = number_of r ≡ x → ⊥
 
-nothing_other : Other accepted
-unfolding Other
-nothing_other e = omega (arith, e)
-
-then_other : (a b : Reply) → Other a → Other b → Other (a then b)
-then_other accepted b p q = q
-then_other (nodes k i j) b p q = p
-then_other (place k i) b p q = p
-then_other (plain k) b p q = p
-
-first_other : (f : ℕ → Reply) → ((i : ℕ) → Other (f i)) → (n : ℕ) → Other (first f n)
-unfolding first
-first_other f h zero = nothing_other
-first_other f h (suc n) = then_other (first f n) (f n) (first_other f h n) (h n)
-
-module _ (k : ℕ) (other : k ≡ 3 → ⊥) where
-  tested_other : (b : Bool) (i j : ℕ) → Other (cond b (nodes k i j) accepted)
+-- of a rule, and of rules one after another
+module _ (x : ℕ) (some : x ≡ 0 → ⊥) where
+  nothing_other : Other x accepted
   unfolding Other
-  tested_other true i j = other
-  tested_other false i j = nothing_other
+  nothing_other e = some (sym e)
 
-  lowest_other : (f : ℕ → Bool) (n : ℕ) → Other (lowest k f n)
-  unfolding lowest
-  lowest_other f n = first_other (λ i. cond (f i) (nodes k i i) accepted) (λ i. tested_other (f i) i i) n
+  then_other : (a b : Reply) → Other x a → Other x b → Other x (a then b)
+  then_other accepted b p q = q
+  then_other (nodes k i j) b p q = p
+  then_other (place k i) b p q = p
+  then_other (plain k) b p q = p
 
-  pair_other : (f : ℕ → ℕ → Bool) (n : ℕ) → Other (first_pair k f n)
-  unfolding first_pair pairs_of
-  pair_other f n = first_other (pairs_of k f n) (λ i. first_other (λ j. cond (ltb i j && f i j) (nodes k i j) accepted) (λ j. tested_other (ltb i j && f i j) i j) n) n
+  first_other : (f : ℕ → Reply) → ((i : ℕ) → Other x (f i)) → (n : ℕ) → Other x (first f n)
+  unfolding first
+  first_other f h zero = nothing_other
+  first_other f h (suc n) = then_other (first f n) (f n) (first_other f h n) (h n)
+
+  module _ (k : ℕ) (other : k ≡ x → ⊥) where
+    tested_other : (b : Bool) (i j : ℕ) → Other x (cond b (nodes k i j) accepted)
+    unfolding Other
+    tested_other true i j = other
+    tested_other false i j = nothing_other
+
+    lowest_other : (f : ℕ → Bool) (n : ℕ) → Other x (lowest k f n)
+    unfolding lowest
+    lowest_other f n = first_other (λ i. cond (f i) (nodes k i i) accepted) (λ i. tested_other (f i) i i) n
+
+    pair_other : (f : ℕ → ℕ → Bool) (n : ℕ) → Other x (first_pair k f n)
+    unfolding first_pair pairs_of
+    pair_other f n = first_other (pairs_of k f n) (λ i. first_other (λ j. cond (ltb i j && f i j) (nodes k i j) accepted) (λ j. tested_other (ltb i j && f i j) i j) n) n
 
 module _ (m : RegionMap) (memory : ℕ) where
   pub judged_count : count_fault m.count ≡ true → nodes 3 0 0 ≡ judged m memory
@@ -103,28 +104,21 @@ module _ (m : RegionMap) (memory : ℕ) where
     pub judged_accepted : accepted ≡ on_regions m memory → accepted ≡ on_pairs m → accepted ≡ judged m memory
     judged_accepted e f = f ∙ judged_passed e
 
-  rules_other : Other (on_regions m memory then on_pairs m)
+  rules_other : Other 3 (on_regions m memory then on_pairs m)
   unfolding on_regions on_pairs
   rules_other =
-      let kinds = lowest 4 (λ n. kind_fault (region m n).kind) m.count in
-      let fields = lowest 6 (λ n. field_fault (region m n)) m.count in
-      let links = lowest 7 (λ n. link_fault m n) m.count in
-      let ends = lowest 8 (λ n. memory_fault memory (region m n)) m.count in
-      let bytes = first_pair 8 (λ i j. memory_clash (region m i) (region m j)) m.count in
-      let single = first_pair 9 (λ i j. managed_clash (region m i) (region m j)) m.count in
-      let ports = first_pair 10 (λ i j. port_clash (region m i) (region m j)) m.count in
-      let siblings = first_pair 11 (λ i j. sibling_clash priority_of m i j) m.count in
-      then_other (kinds then fields then links then ends) (bytes then single then ports then siblings)
-      (then_other (kinds then fields then links) ends
-      (then_other (kinds then fields) links
-      (then_other kinds fields (lowest_other 4 (λ e. omega (arith, e)) _ _) (lowest_other 6 (λ e. omega (arith, e)) _ _))
-      (lowest_other 7 (λ e. omega (arith, e)) _ _))
-      (lowest_other 8 (λ e. omega (arith, e)) _ _))
-      (then_other (bytes then single then ports) siblings
-      (then_other (bytes then single) ports
-      (then_other bytes single (pair_other 8 (λ e. omega (arith, e)) _ _) (pair_other 9 (λ e. omega (arith, e)) _ _))
-      (pair_other 10 (λ e. omega (arith, e)) _ _))
-      (pair_other 11 (λ e. omega (arith, e)) _ _))
+      then_other 3 some _ _
+      (then_other 3 some _ _ (then_other 3 some _ _ (then_other 3 some _ _ (one 4 (omega arith) _) (one 6 (omega arith) _)) (one 7 (omega arith) _)) (one 8 (omega arith) _))
+      (then_other 3 some _ _ (then_other 3 some _ _ (then_other 3 some _ _ (two 8 (omega arith) _) (two 9 (omega arith) _)) (two 10 (omega arith) _)) (two 11 (omega arith) _))
+    where
+      some : ◌≡◌ {A = ℕ} 3 0 → ⊥
+      some e = omega (arith, e)
+
+      one : (k : ℕ) → 3 < k → (f : ℕ → Bool) → Other 3 (lowest k f m.count)
+      one k h f = lowest_other 3 some k (λ e. omega (arith, h, e)) f m.count
+
+      two : (k : ℕ) → 3 < k → (f : ℕ → ℕ → Bool) → Other 3 (first_pair k f m.count)
+      two k h f = pair_other 3 some k (λ e. omega (arith, h, e)) f m.count
 
   -- 3 is the answer only where the count is at fault
   pub judged_count_only : number_of (judged m memory) ≡ 3 → count_fault m.count ≡ true

@@ -2,19 +2,18 @@
 use mathlib.Core.Path.{◌≡◌, ap, ◌∙◌}
 use mathlib.Core.Logic.{⊎_elim}
 use mathlib.Core.List.{List}
-use Prim.Native.Nat.{ℕ, ◌<◌, ◌≤◌}
+use Prim.Native.Nat.{ℕ, ◌+◌, ◌<◌, ◌≤◌}
 use native.Mathlib.Omega.{arith}
 use mathlib.Core.Bool.{true}
 use mathlib.Core.Path.{refl}
 use lib.ListN.{length}
-use Rattle.map_records.specs.Limits.{map_length, most_regions}
+use Rattle.map_records.specs.Limits.{limit, map_length, most_regions}
 use Rattle.map_records.specs.Words.{map_of}
 use Rattle.map_records.proofs.Order.{eq_or_not}
 use Rattle.map_records.proofs.WordLaws.{map_other}
 use Rattle.map_check.specs.Reply.{Reply, accepted, nodes, place, plain}
 use Rattle.map_check.specs.Check.{count_fault, judged_by, judged, Accepted, Checked}
 use Rattle.map_check.specs.Promises.{Walkable, Tree}
-use Rattle.map_check.specs.Sound.{Sound}
 use Rattle.map_check.proofs.Accepted.{accepted_sound, sound_accepted, accepted_walkable}
 
 pub count_other : (w : List ℕ) → (length w ≡ map_length → ⊥) → count_fault (map_of w).count ≡ true
@@ -53,11 +52,11 @@ checked_walkable w known = accepted_walkable (map_of w) known.memory known.accep
 pub checked_few : (w : List ℕ) → Checked w → (map_of w).count ≤ most_regions
 checked_few w known = (checked_walkable w known).count
 
--- No region ends past 2^49, so what is accepted over some length of memory is accepted over the longest: who knows words to be checked is given them as a `CheckedMap` by `checked_map` with that length.
-pub checked_longest : (w : List ℕ) → Checked w → Accepted (map_of w) 18446744073709551615
-checked_longest w known =
+-- No region's memory ends past twice 2^48, so words that are accepted for some length of memory are accepted for every length from there on. So a caller that knows this of words has their `CheckedMap` from `checked_map` and the longest memory.
+pub checked_long : (w : List ℕ) → Checked w → (memory : ℕ) → limit + limit ≤ memory → Accepted (map_of w) memory
+checked_long w known memory long =
     let s = accepted_sound (map_of w) known.memory known.accepted in
-    let longest : Sound (map_of w) 18446744073709551615 = record {
+    sound_accepted (map_of w) memory (record {
       some = s.some;
       count = s.count;
       kinds = s.kinds;
@@ -65,10 +64,9 @@ checked_longest w known =
       parents = s.parents;
       targets = s.targets;
       root = s.root;
-      ends = λ n h memory. omega (arith, (s.bounded n h).start, (s.bounded n h).size);
+      ends = λ n h has. omega (arith, (s.bounded n h).start, (s.bounded n h).size);
       bytes = s.bytes;
       single = s.single;
       ports = s.ports;
       siblings = s.siblings;
-    } in
-    sound_accepted (map_of w) 18446744073709551615 longest
+    })

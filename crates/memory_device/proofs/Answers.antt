@@ -91,13 +91,13 @@ map_fault_in (Err e) = Map e
 abbrev set_up_fault_of : Reply → SetUpFault
 set_up_fault_of r = map_fault_in (answer_of r)
 
-set_up_read : Read set_up_fault_reply set_up_fault_of
-set_up_read = record { refuses = refuses; back = back }
-  where
-    refuses : (e : SetUpFault) → passes (set_up_fault_reply e) ≡ false
-    refuses (Map e) = fault_form (λ r. passes r ≡ false) (λ k i j. refl) e
-    refuses Values = refl
+pub set_up_refuses : (e : SetUpFault) → passes (set_up_fault_reply e) ≡ false
+set_up_refuses (Map e) = fault_form (λ r. passes r ≡ false) (λ k i j. refl) e
+set_up_refuses Values = refl
 
+set_up_read : Read set_up_fault_reply set_up_fault_of
+set_up_read = record { refuses = set_up_refuses; back = back }
+  where
     back : (e : SetUpFault) → set_up_fault_of (set_up_fault_reply e) ≡ e
     back (Map e) = ap map_fault_in (reply_back (Err e))
     back Values = refl

@@ -148,9 +148,17 @@ whole_words w = go (eqb (length w) device_length) refl
     go false p = rw (device_none w (eqb-false (length w) device_length p)) (record { plugged = refl; pins = refl })
 
 -- ---- a call by value: the words of the record, the call on them, and the record read back
--- a refusal gives the state back, and a next state has whole tables
+-- a refusal gives the state back, and a next state is as P says
+abbrev pub Gives : (MemoryDevice → Type 0) → MemoryDevice → Reply → MemoryDevice → Type 0
+Gives P d reply next = ((passes reply ≡ false) × (next ≡ d)) ⊎ ((passes reply ≡ true) × P next)
+
+-- and has whole tables
 abbrev Fair : MemoryDevice → Reply → MemoryDevice → Type 0
-Fair d reply next = ((passes reply ≡ false) × (next ≡ d)) ⊎ ((passes reply ≡ true) × Whole next)
+Fair = Gives Whole
+
+pub given_back : (P : MemoryDevice → Type 0) (d : MemoryDevice) (reply : Reply) (next : MemoryDevice) → Gives P d reply next → passes reply ≡ false → next ≡ d
+given_back P d reply next g refused =
+    ⊎_elim (λ (r : (passes reply ≡ false) × (next ≡ d)). r.1) (λ (r : (passes reply ≡ true) × P next). absurd (never (sym (sym refused ∙ r.0)))) g
 
 read_back : (d : MemoryDevice) (reply : Reply) (next : MemoryDevice) (w w' : List ℕ) → device_of w ≡ d → w' ≡ words_left reply next w → Fair d reply next → device_of w' ≡ next
 read_back d reply next w w' e p f =
@@ -162,11 +170,7 @@ read_back d reply next w w' e p f =
 -- the answer by value, of a call whose outcome on a record d is `o d`
 module _ {E : Type 0} (reply : E → Reply) (refuses : (e : E) → passes (reply e) ≡ false) (d : MemoryDevice) (h : Whole d) (o : MemoryDevice → HostOutcome) (f : Fair d (o d).reply (o d).device) where
   refused_state : (e : E) → reply e ≡ (o d).reply → (o d).device ≡ d
-  refused_state e p =
-      ⊎_elim
-      (λ (r : (passes (o d).reply ≡ false) × ((o d).device ≡ d)). r.1)
-      (λ (r : (passes (o d).reply ≡ true) × Whole (o d).device). absurd (never (sym (sym (refuses e) ∙ ap passes p ∙ r.0))))
-      f
+  refused_state e p = given_back Whole d (o d).reply (o d).device f (sym (ap passes p) ∙ refuses e)
 
   pub by_value : (w : List ℕ) → w ≡ device_words d → (answer : Result Unit E) (w' : List ℕ) → LeavesDevice (o (device_of w)) w (reply_by reply answer) w'
       → (r : Result value.MemoryDevice (Refused E value.MemoryDevice)) → ByValue d answer w' r → outcome_by reply r ≡ o d
@@ -217,14 +221,18 @@ whole_changed : (d : MemoryDevice) (r : Request) (x : Response) → Whole d → 
 whole_changed d r x h = record { plugged = table_whole (sizes_of d) d.plugged r x h.plugged; pins = h.pins }
 
 -- ---- an outcome that may be 27, 14 or 15: each next state is one of whole tables, where the given one has them
+pub gives : (P : MemoryDevice → Type 0) (d : MemoryDevice) (fault : Bool) (k : ℕ) (next : MemoryDevice) → P next
+    → Gives P d (if_ok d (cond fault (host_refusal k d) (done next))).reply (if_ok d (cond fault (host_refusal k d) (done next))).device
+gives P d fault k next p = go (device_ok d) fault
+  where
+    go : (x y : Bool) → Gives P d (cond x (cond y (host_refusal k d) (done next)) (host_refusal 27 d)).reply (cond x (cond y (host_refusal k d) (done next)) (host_refusal 27 d)).device
+    go true true = inl (refl, refl)
+    go true false = inr (refl, p)
+    go false y = inl (refl, refl)
+
 pub fair : (d : MemoryDevice) → Whole d → (fault : Bool) (k : ℕ) (next : MemoryDevice) → (Whole d → Whole next)
     → Fair d (if_ok d (cond fault (host_refusal k d) (done next))).reply (if_ok d (cond fault (host_refusal k d) (done next))).device
-fair d h fault k next f = go (device_ok d) fault
-  where
-    go : (x y : Bool) → Fair d (cond x (cond y (host_refusal k d) (done next)) (host_refusal 27 d)).reply (cond x (cond y (host_refusal k d) (done next)) (host_refusal 27 d)).device
-    go true true = inl (refl, refl)
-    go true false = inr (refl, f h)
-    go false y = inl (refl, refl)
+fair d h fault k next f = gives Whole d fault k next (f h)
 
 -- ---- a request
 pub carries_done : (w s out : List ℕ) → true ≡ device_ok (device_of w) → length out ≡ 10 → (out' response w' : List ℕ) → out' ≡ response → Responds w s response w'
@@ -259,15 +267,19 @@ module _ (d : MemoryDevice) (s out : List ℕ) where
       let k : m ≡ o.device = g ∙ read_back d o.reply o.device w w' e h.2 (carried_fair (rw e at (whole_words w))) in
       λ i. record { reply = h.0 i; response = h.1 i; device = k i }
 
-  pub carried_27 : (w : List ℕ) {w' out' : List ℕ} → device_of w ≡ d → Carries (carried_into (device_of w) s out) w (plain 27) out' w'
-      → ◌≡◌ {A = Carried} (record { reply = plain 27; response = out; device = d }) (carried_into d s out)
+  -- 27 alone refuses
+  pub carried_refused : plain 27 ≡ (carried_into d s out).reply → ◌≡◌ {A = Carried} (record { reply = plain 27; response = out; device = d }) (carried_into d s out)
   unfolding carried_into
-  carried_27 w e l = go (eqb (length out) 10 && device_ok d) (rw e at l.0)
+  carried_refused = go (eqb (length out) 10 && device_ok d)
     where
       go : (y : Bool) → plain 27 ≡ (cond y (carried_out d (request_of s)) (record { reply = plain 27; response = out; device = d })).reply
           → record { reply = plain 27; response = out; device = d } ≡ cond y (carried_out d (request_of s)) (record { reply = plain 27; response = out; device = d })
       go true h = absurd (never (ap passes (sym h)))
       go false h = refl
+
+  pub carried_27 : (w : List ℕ) {w' out' : List ℕ} → device_of w ≡ d → Carries (carried_into (device_of w) s out) w (plain 27) out' w'
+      → ◌≡◌ {A = Carried} (record { reply = plain 27; response = out; device = d }) (carried_into d s out)
+  carried_27 w e l = carried_refused (rw e at l.0)
 
 -- ---- the configuration
 pub configures : (w out : List ℕ) → true ≡ device_ok (device_of w) → length out ≡ 56 → (out' : List ℕ) → out' ≡ configuration_of (device_at w)
@@ -289,15 +301,18 @@ configured_value d w out {out'} {r} e l =
     let h : ReadsConfiguration (configured_into d out) r out' = rw e at l in
     λ i. record { reply = h.0 i; bytes = h.1 i }
 
-pub configured_27 : (d : MemoryDevice) (w out : List ℕ) {out' : List ℕ} → device_of w ≡ d → ReadsConfiguration (configured_into (device_of w) out) (plain 27) out'
-    → ◌≡◌ {A = ConfigurationRead} (record { reply = plain 27; bytes = out }) (configured_into d out)
+pub configured_refused : (d : MemoryDevice) (out : List ℕ) → plain 27 ≡ (configured_into d out).reply → ◌≡◌ {A = ConfigurationRead} (record { reply = plain 27; bytes = out }) (configured_into d out)
 unfolding configured_into
-configured_27 d w out e l = go (eqb (length out) 56 && device_ok d) (rw e at l.0)
+configured_refused d out = go (eqb (length out) 56 && device_ok d)
   where
     go : (y : Bool) → plain 27 ≡ (cond {A = ConfigurationRead} y (record { reply = accepted; bytes = configuration_of d }) (record { reply = plain 27; bytes = out })).reply
         → ◌≡◌ {A = ConfigurationRead} (record { reply = plain 27; bytes = out }) (cond y (record { reply = accepted; bytes = configuration_of d }) (record { reply = plain 27; bytes = out }))
     go true h = absurd (never (ap passes (sym h)))
     go false h = refl
+
+pub configured_27 : (d : MemoryDevice) (w out : List ℕ) {out' : List ℕ} → device_of w ≡ d → ReadsConfiguration (configured_into (device_of w) out) (plain 27) out'
+    → ◌≡◌ {A = ConfigurationRead} (record { reply = plain 27; bytes = out }) (configured_into d out)
+configured_27 d w out e l = configured_refused d out (rw e at l.0)
 
 -- ---- a block of a byte
 pub byte_27 : (w : List ℕ) (o : ℕ) → false ≡ device_ok (device_of w) → (r : Result (Option BlockNumber) RecordFault) → IsErr r → byte_of r ≡ byte_block (device_of w) o
